@@ -1,0 +1,39 @@
+-- Laws of checks: what an acceptance says of each, and the number of a refusal.
+use Prim.Native.Nat.{ℕ}
+use native.Mathlib.Omega.{arith}
+use mathlib.Core.Path.{_≡_, refl, sym, _∙_}
+use mathlib.Core.Bool.{Bool, true, false, _&&_}
+use Rattle.codec.specs.Refusal.{Refusal, tooLong, endsEarly, reservedId, wrongVersion, setsDiffer, blockTooSmall, wrongBlock, notAllowed, leftOver, numberOf, Checked, refuse, accept, demand, andThen, numberIn}
+
+pub by-bool : {C : Type 0} (t : Bool) → (t ≡ true → C) → (t ≡ false → C) → C
+by-bool true f g = f refl
+by-bool false f g = g refl
+
+pub and-true : (a b : Bool) → a && b ≡ true → (a ≡ true) × (b ≡ true)
+and-true true b e = (refl, e)
+and-true false b e = let z : _≡_ {A = ℕ} 0 1 = cc in absurd (omega arith)
+
+pub no-zero : (x : Refusal) → numberOf x ≡ 0 → ⊥
+no-zero tooLong e = omega arith
+no-zero endsEarly e = omega arith
+no-zero reservedId e = omega arith
+no-zero wrongVersion e = omega arith
+no-zero setsDiffer e = omega arith
+no-zero blockTooSmall e = omega arith
+no-zero wrongBlock e = omega arith
+no-zero notAllowed e = omega arith
+no-zero leftOver e = omega arith
+
+module _ {A C : Type 0} where
+  -- number 0 is given exactly where nothing is refused
+  pub by-number : (c : Checked A) → numberIn c ≡ 0 → ((a : A) → c ≡ accept a → C) → C
+  by-number (refuse x) e k = absurd (no-zero x e)
+  by-number (accept a) e k = k a refl
+
+  pub demanded : (t : Bool) (x : Refusal) (c : Checked A) (a : A) → demand t x c ≡ accept a → (t ≡ true → c ≡ accept a → C) → C
+  demanded true x c a e k = k refl e
+  demanded false x c a e k = let z : _≡_ {A = ℕ} 0 1 = cc in absurd (omega arith)
+
+pub chained : {A B C : Type 0} (c : Checked A) (rest : A → Checked B) (b : B) → andThen c rest ≡ accept b → ((a : A) → c ≡ accept a → rest a ≡ accept b → C) → C
+chained (refuse x) rest b e k = let z : _≡_ {A = ℕ} 0 1 = cc in absurd (omega arith)
+chained (accept a) rest b e k = k a refl e

@@ -1,0 +1,106 @@
+-- Layouts: the fields of a block as data, and what a layout means for the octets of a block.
+use Prim.Native.Nat.{ℕ, _+_, _-_}
+use Prim.Native.String.{String}
+use mathlib.Core.List.{List, [], _∷_, _++_}
+use mathlib.Core.Bool.{Bool, true, false, _&&_, _||_}
+use lib.ListN.{length, getD, replicate}
+use lib.Dec.{leb, eqb}
+use Rattle.codec.specs.Octets.{part, ofLE}
+use Rattle.codec.specs.Refusal.{Checked, accept, demand, blockTooSmall, notAllowed}
+
+-- which numbers are allowed
+pub data Test : Type 0 where
+  any : Test
+  oneOf : List ℕ → Test
+  between : ℕ → ℕ → Test
+
+-- which octets are allowed
+pub data Word : Type 0 where
+  free letters : Word
+
+-- A field, by the name that 01's table gives it.
+-- number: so many octets, the lowest first. octets: so many, in wire order.
+-- counted: a length octet, then as many octets, kept in an array of that capacity with zeros past them.
+pub data Field : Type 0 where
+  number : String → (width : ℕ) → Test → Field
+  octets : String → (count : ℕ) → Word → Field
+  counted : String → String → Test → (capacity : ℕ) → Field
+
+abbrev pub Layout : Type 0
+Layout = List Field
+
+-- ---- what is allowed
+
+unfoldable pub member : List ℕ → ℕ → Bool
+member [] x = false
+member (y ∷ l) x = eqb x y || member l x
+
+unfoldable pub inside : ℕ → ℕ → ℕ → Bool
+inside low high x = leb low x && leb x high
+
+-- letters A to Z
+unfoldable pub alphabetic : List ℕ → Bool
+alphabetic [] = true
+alphabetic (x ∷ l) = inside 65 90 x && alphabetic l
+
+abbrev pub test : Test → ℕ → Bool
+test any x = true
+test (oneOf l) x = member l x
+test (between low high) x = inside low high x
+
+abbrev pub spell : Word → List ℕ → Bool
+spell free l = true
+spell letters l = alphabetic l
+
+-- ---- what the fields of a block hold
+
+abbrev pub Values : Layout → Type 0
+Values [] = Unit {0}
+Values (number x w t ∷ L) = ℕ × Values L
+Values (octets x n t ∷ L) = List ℕ × Values L
+Values (counted y x t c ∷ L) = ℕ × (List ℕ × Values L)
+
+abbrev pub zeroes : (L : Layout) → Values L
+zeroes [] = tt
+zeroes (number x w t ∷ L) = (0, zeroes L)
+zeroes (octets x n t ∷ L) = (replicate n 0, zeroes L)
+zeroes (counted y x t c ∷ L) = (0, (replicate c 0, zeroes L))
+
+abbrev pub allowed : (L : Layout) → Values L → Bool
+allowed [] v = true
+allowed (number x w t ∷ L) v = test t (v .0) && allowed L (v .1)
+allowed (octets x n t ∷ L) v = spell t (v .0) && allowed L (v .1)
+allowed (counted y x t c ∷ L) v = test t (v .0) && allowed L (v .1 .1)
+
+-- ---- the octets of a block s. A place counts from the block's ID octet, so its fields start at place 2.
+
+-- the values of the fields from a place on
+abbrev pub value : (L : Layout) → ℕ → List ℕ → Values L
+value [] at s = tt
+value (number x w t ∷ L) at s = (ofLE w at s, value L (at + w) s)
+value (octets x n t ∷ L) at s = (part at n s, value L (at + n) s)
+value (counted y x t c ∷ L) at s = (getD s at 0, (part (at + 1) (getD s at 0) s ++ replicate (c - getD s at 0) 0, value L (at + 1 + getD s at 0) s))
+
+-- the place after the last field: 01's need
+abbrev pub need : Layout → ℕ → List ℕ → ℕ
+need [] at s = at
+need (number x w t ∷ L) at s = need L (at + w) s
+need (octets x n t ∷ L) at s = need L (at + n) s
+need (counted y x t c ∷ L) at s = need L (at + 1 + getD s at 0) s
+
+-- what the first size test is against: the need, as far as it is known before a length octet is read
+abbrev pub least : Layout → ℕ → ℕ
+least [] at = at
+least (number x w t ∷ L) at = least L (at + w)
+least (octets x n t ∷ L) at = least L (at + n)
+least (counted y x t c ∷ L) at = at + 1
+
+-- the fields in order, the first fault deciding; the second size test comes right after a length is found allowed
+abbrev pub fault : Layout → ℕ → List ℕ → Checked (Unit {0})
+fault [] at s = accept tt
+fault (number x w t ∷ L) at s = demand (test t (ofLE w at s)) notAllowed (fault L (at + w) s)
+fault (octets x n t ∷ L) at s = demand (spell t (part at n s)) notAllowed (fault L (at + n) s)
+fault (counted y x t c ∷ L) at s =
+    demand (test t (getD s at 0)) notAllowed
+    (demand (leb (least L (at + 1 + getD s at 0)) (length s)) blockTooSmall
+    (fault L (at + 1 + getD s at 0) s))

@@ -1,0 +1,62 @@
+-- What the inner functions of the reader keep: the places of the known technologies' blocks, and what reading a block without a fault rests on.
+use Prim.Native.Nat.{ℕ, _+_, _≤_, _<_}
+use mathlib.Core.Path.{_≡_}
+use mathlib.Core.List.{List, [], _∷_}
+use mathlib.Core.Bool.{Bool, cond}
+use lib.Dec.{ltb, eqb}
+use lib.ListN.{length, getD, set, replicate}
+use Rattle.codec.specs.Refusal.{Checked, refuse, accept, numberOf, numberIn}
+use Rattle.codec.specs.Layout.{Layout, number, octets, counted, value}
+use Rattle.codec.specs.Technology.{known}
+use Rattle.codec.specs.Records.{Column, capabilities, configurations, blank}
+use Rattle.codec.specs.Message.{Walked, idOf, setOf, blockAt, layoutsOf}
+use Rattle.codec.specs.declared.records.Record.{Record}
+
+-- the octets of a block reach past its last field, and what is counted fits its array
+abbrev pub Roomy : Layout → ℕ → List ℕ → Type 0
+Roomy [] at s = at ≤ length s
+Roomy (number x w t ∷ L) at s = Roomy L (at + w) s
+Roomy (octets x n t ∷ L) at s = Roomy L (at + n) s
+Roomy (counted y x t c ∷ L) at s = (getD s at 0 ≤ c) × Roomy L (at + 1 + getD s at 0) s
+
+-- ---- five numbers: the place of each known technology's block, 0 for none, and the place after the last block
+
+abbrev pub note : ℕ → ℕ → List ℕ → List ℕ
+note id at found = cond (ltb id 4) (set found id at) found
+
+-- blocks that lie one after the other from a place on
+abbrev pub noted : List (List ℕ) → ℕ → List ℕ → List ℕ
+noted [] at found = set found 4 at
+noted (b ∷ blocks) at found = noted blocks (at + length b) (note (getD b 0 0) at found)
+
+-- what the walk leaves: the number of the first fault, or 0 with the places and the end
+abbrev pub Finds : Checked Walked → ℕ → List ℕ → ℕ → List ℕ → Type 0
+Finds (refuse x) at found f left = f ≡ numberOf x
+Finds (accept w) at found f left = (f ≡ 0) × (left ≡ noted (w .blocks) at found) × (getD left 4 0 ≡ w .end)
+
+-- the number of the first fault, and the places where there is none
+pub record Judged (c : Checked (List (List ℕ))) (at : ℕ) (found : List ℕ) (f : ℕ) (left : List ℕ) : Type 0 where
+  pub number : f ≡ numberIn c
+  pub places : (blocks : List (List ℕ)) → c ≡ accept blocks → left ≡ noted blocks at found
+
+-- ---- the record that the places give
+
+-- an absent technology's block reads as zeros
+abbrev pub blockOrZeros : List ℕ → ℕ → List ℕ
+blockOrZeros m at = cond (eqb at 0) (replicate 20 0) (blockAt m at)
+
+abbrev pub columnAt : {A : Type 0} → Column A → List ℕ → List ℕ → A
+columnAt C m found = C .make (λ id. value (C .layouts id) 2 (blockOrZeros m (getD found id 0)))
+
+abbrev pub recordAt : List ℕ → List ℕ → Record
+recordAt m found = record {
+  id = idOf m;
+  set = known (setOf m);
+  capability = cond (eqb (idOf m) 1) (columnAt capabilities m found) (blank capabilities);
+  configuration = cond (eqb (idOf m) 2) (columnAt configurations m found) (blank configurations);
+}
+
+-- whole blocks with room for all their fields stand at the places
+pub record Placed (m found : List ℕ) : Type 0 where
+  pub inside : (id : ℕ) → id < 4 → (getD found id 0 ≡ 0 → ⊥) → (getD found id 0 + 2 ≤ length m) × (getD found id 0 + getD m (getD found id 0 + 1) 0 ≤ length m)
+  pub roomy : (id : ℕ) → id < 4 → Roomy (layoutsOf (idOf m) id) 2 (blockOrZeros m (getD found id 0))

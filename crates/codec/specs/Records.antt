@@ -1,0 +1,97 @@
+-- Records: the structs of the code as columns of 01's table. A record does not hold the version.
+use Prim.Native.Nat.{ℕ}
+use Rattle.codec.specs.Layout.{Layout, Values, zeroes}
+use Rattle.codec.specs.Blocks.{uwbCapability, csCapability, nanCapability, uwbConfiguration, csConfiguration, nanConfiguration, rssiBlock, capabilityBlock, configurationBlock}
+use Rattle.codec.specs.Refusal.{Checked, refuse, accept, numberOf}
+use Rattle.codec.specs.declared.uwb.UwbCapability.{UwbCapability}
+use Rattle.codec.specs.declared.uwb.UwbConfiguration.{UwbConfiguration}
+use Rattle.codec.specs.declared.cs.CsCapability.{CsCapability}
+use Rattle.codec.specs.declared.cs.CsConfiguration.{CsConfiguration}
+use Rattle.codec.specs.declared.nan.NanCapability.{NanCapability}
+use Rattle.codec.specs.declared.nan.NanConfiguration.{NanConfiguration}
+use Rattle.codec.specs.declared.rssi.Rssi.{Rssi}
+use Rattle.codec.specs.declared.records.Capability.{Capability}
+use Rattle.codec.specs.declared.records.Configuration.{Configuration}
+use Rattle.codec.specs.declared.records.Record.{Record}
+use Rattle.codec.specs.declared.records.Reading.{Reading}
+
+-- ---- a block's fields as the struct of the code that holds them
+
+abbrev pub toUwbCapability : Values uwbCapability → UwbCapability
+toUwbCapability v = record {
+  address = v .0;
+  channels = record { 0 = v .1 .0 };
+  «preamble_indexes» = record { 0 = v .1 .1 .0 };
+  «config_ids» = record { 0 = v .1 .1 .1 .0 };
+  «shortest_interval» = v .1 .1 .1 .1 .0;
+  «shortest_slot» = v .1 .1 .1 .1 .1 .0;
+  roles = v .1 .1 .1 .1 .1 .1 .0;
+}
+
+abbrev pub toCsCapability : Values csCapability → CsCapability
+toCsCapability v = record { «security_types» = v .0; address = v .1 .0 }
+
+abbrev pub toNanCapability : Values nanCapability → NanCapability
+toNanCapability v = record { features = v .0; periodic = v .1 .0; bandwidth = v .1 .1 .0; «receive_chains» = v .1 .1 .1 .0 }
+
+abbrev pub toUwbConfiguration : Values uwbConfiguration → UwbConfiguration
+toUwbConfiguration v = record {
+  address = v .0;
+  «session_id» = v .1 .0;
+  «config_id» = record { 0 = v .1 .1 .0 };
+  channel = record { 0 = v .1 .1 .1 .0 };
+  «preamble_index» = record { 0 = v .1 .1 .1 .1 .0 };
+  interval = v .1 .1 .1 .1 .1 .0;
+  slot = v .1 .1 .1 .1 .1 .1 .0;
+  «key_length» = v .1 .1 .1 .1 .1 .1 .1 .0;
+  key = v .1 .1 .1 .1 .1 .1 .1 .1 .0;
+  country = v .1 .1 .1 .1 .1 .1 .1 .1 .1 .0;
+  role = v .1 .1 .1 .1 .1 .1 .1 .1 .1 .1 .0;
+  mode = v .1 .1 .1 .1 .1 .1 .1 .1 .1 .1 .1 .0;
+}
+
+abbrev pub toCsConfiguration : Values csConfiguration → CsConfiguration
+toCsConfiguration v = record { «security_level» = v .0; address = v .1 .0 }
+
+abbrev pub toNanConfiguration : Values nanConfiguration → NanConfiguration
+toNanConfiguration v = record { «name_length» = v .0; name = v .1 .0; role = v .1 .1 .0; periodic = v .1 .1 .1 .0 }
+
+abbrev pub toRssi : Values rssiBlock → Rssi
+toRssi v = record { address = v .0 }
+
+-- ---- a column: the layout for each technology ID, and the struct with the fields of each
+
+pub record Column (A : Type 0) : Type 0 where
+  pub layouts : ℕ → Layout
+  pub make : ((id : ℕ) → Values (layouts id)) → A
+
+abbrev pub capabilities : Column Capability
+capabilities = record {
+  layouts = capabilityBlock;
+  make = λ v. record { uwb = toUwbCapability (v 0); cs = toCsCapability (v 1); nan = toNanCapability (v 2); rssi = toRssi (v 3) };
+}
+
+abbrev pub configurations : Column Configuration
+configurations = record {
+  layouts = configurationBlock;
+  make = λ v. record { uwb = toUwbConfiguration (v 0); cs = toCsConfiguration (v 1); nan = toNanConfiguration (v 2); rssi = toRssi (v 3) };
+}
+
+-- all fields zero
+abbrev pub blank : {A : Type 0} → Column A → A
+blank C = C .make (λ id. zeroes (C .layouts id))
+
+abbrev pub zeroRecord : Record
+zeroRecord = record { id = 0; set = 0; capability = blank capabilities; configuration = blank configurations }
+
+-- ---- what the reader returns: a refusal's number and the all-zero record, or 0 and the record
+
+abbrev pub accepted : Record → Reading
+accepted r = record { refusal = 0; value = r }
+
+abbrev pub refused : ℕ → Reading
+refused n = record { refusal = n; value = zeroRecord }
+
+abbrev pub answer : Checked Record → Reading
+answer (refuse x) = refused (numberOf x)
+answer (accept r) = accepted r

@@ -1,0 +1,30 @@
+// The message format of Android Ranging out-of-band, version 1: records, and the reader of messages.
+mod blocks;
+mod cs;
+mod nan;
+mod octets;
+mod reader;
+mod records;
+mod refusal;
+mod rssi;
+mod uwb;
+mod walk;
+
+pub use cs::CsCapability;
+pub use cs::CsConfiguration;
+pub use nan::NanCapability;
+pub use nan::NanConfiguration;
+pub use reader::read;
+pub use records::Capability;
+pub use records::Configuration;
+pub use records::Reading;
+pub use records::Record;
+pub use rssi::Rssi;
+pub use uwb::Channel;
+pub use uwb::Channels;
+pub use uwb::ConfigId;
+pub use uwb::ConfigIds;
+pub use uwb::PreambleIndex;
+pub use uwb::PreambleIndexes;
+pub use uwb::UwbCapability;
+pub use uwb::UwbConfiguration;

@@ -1,0 +1,125 @@
+// Records: what a message says, and the reader's answer.
+use crate::cs::CsCapability;
+use crate::cs::CsConfiguration;
+use crate::nan::NanCapability;
+use crate::nan::NanConfiguration;
+use crate::rssi::Rssi;
+use crate::uwb::Channel;
+use crate::uwb::Channels;
+use crate::uwb::ConfigId;
+use crate::uwb::ConfigIds;
+use crate::uwb::PreambleIndex;
+use crate::uwb::PreambleIndexes;
+use crate::uwb::UwbCapability;
+use crate::uwb::UwbConfiguration;
+ghost use mathlib.Core.Path.{_≡_};
+ghost use Rattle.codec.specs.Records.{capabilities, configurations, blank, refused};
+
+// What the blocks of message 1 say. An absent technology's fields are zero.
+#[repr(C)]
+pub struct Capability {
+    pub uwb: UwbCapability,
+    pub cs: CsCapability,
+    pub nan: NanCapability,
+    pub rssi: Rssi,
+}
+
+// What the blocks of message 2 say. An absent technology's fields are zero.
+#[repr(C)]
+pub struct Configuration {
+    pub uwb: UwbConfiguration,
+    pub cs: CsConfiguration,
+    pub nan: NanConfiguration,
+    pub rssi: Rssi,
+}
+
+// A message without its version: its ID, its technology set (bit n for ID n), and what its blocks say.
+#[repr(C)]
+pub struct Record {
+    pub id: u8,
+    pub set: u16,
+    pub capability: Capability,
+    pub configuration: Configuration,
+}
+
+// A refusal's number and an all-zero record, or 0 and the record.
+#[repr(C)]
+pub struct Reading {
+    pub refusal: u8,
+    pub value: Record,
+}
+
+pub(crate) fn zero_capability() -> Capability
+    ensures { λ r. ⌜ r ≡ blank capabilities ⌝ }
+{
+    Capability {
+        uwb: UwbCapability {
+            address: [0; 2],
+            channels: Channels(0),
+            preamble_indexes: PreambleIndexes(0),
+            config_ids: ConfigIds(0),
+            shortest_interval: 0,
+            shortest_slot: 0,
+            roles: 0,
+        },
+        cs: CsCapability {
+            security_types: 0,
+            address: [0; 6],
+        },
+        nan: NanCapability {
+            features: 0,
+            periodic: 0,
+            bandwidth: 0,
+            receive_chains: 0,
+        },
+        rssi: Rssi { address: [0; 6] },
+    }
+}
+
+pub(crate) fn zero_configuration() -> Configuration
+    ensures { λ r. ⌜ r ≡ blank configurations ⌝ }
+{
+    Configuration {
+        uwb: UwbConfiguration {
+            address: [0; 2],
+            session_id: 0,
+            config_id: ConfigId(0),
+            channel: Channel(0),
+            preamble_index: PreambleIndex(0),
+            interval: 0,
+            slot: 0,
+            key_length: 0,
+            key: [0; 32],
+            country: [0; 2],
+            role: 0,
+            mode: 0,
+        },
+        cs: CsConfiguration {
+            security_level: 0,
+            address: [0; 6],
+        },
+        nan: NanConfiguration {
+            name_length: 0,
+            name: [0; 64],
+            role: 0,
+            periodic: 0,
+        },
+        rssi: Rssi { address: [0; 6] },
+    }
+}
+
+pub(crate) fn refused(number: u8) -> Reading
+    ensures { λ r. ⌜ r ≡ refused number ⌝ }
+{
+    let capability = zero_capability();
+    let configuration = zero_configuration();
+    Reading {
+        refusal: number,
+        value: Record {
+            id: 0,
+            set: 0,
+            capability,
+            configuration,
+        },
+    }
+}
