@@ -9,7 +9,7 @@ use lib.Dec.{leb, eqb, eqb·suc-zero, eqb·zero-suc, eqb·suc-suc}
 use borrow.Author.Tests.{leb-true, leb-false}
 use lib.Pow.{pow-mono, pow-lt, shr-shr}
 use lib.Bits.{bitOr, or-shr, or-step}
-use Rattle.codec.proofs.Checks.{by-bool}
+use Rattle.codec.proofs.Outcomes.{by-bool}
 use Rattle.codec.specs.Technology.{bit}
 use Rattle.codec.specs.Message.{nothing, also}
 

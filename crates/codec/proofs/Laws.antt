@@ -6,9 +6,9 @@ use mathlib.Core.List.{List, [], _∷_, _++_, append-nil}
 use native.Mathlib.Omega.{arith}
 use native.Mathlib.Nat.{add-sub-cancel-left, zero-sub, sub-zero, suc-sub-suc, sub-self}
 use lib.ListN.{length, getD, take, drop, replicate, length-drop, length-take}
-use lib.Seq.{length-take-le, take-all}
+use lib.Seq.{take-all, getD-drop}
 use borrow.Author.Tests.{not-true, not-false}
-use Rattle.codec.specs.Octets.{part}
+use Rattle.codec.specs.Octets.{Octets, part}
 
 -- ---- from an `if !test(..)` to the test's meaning
 
@@ -22,6 +22,18 @@ passed {r} e n = sym e ∙ not-false r n
 
 pub part-length : (at n : ℕ) (s : List ℕ) → at + n ≤ length s → length (part at n s) ≡ n
 part-length at n s h = simp (length-take, length-drop) (omega arith)
+
+octets-drop : (n : ℕ) (l : List ℕ) → Octets l → Octets (drop n l)
+octets-drop n l o i = rw (getD-drop n l i 0) (o (n + i))
+
+octets-take : (n : ℕ) (l : List ℕ) → Octets l → Octets (take n l)
+octets-take zero l o i = omega arith
+octets-take (suc n) [] o i = omega arith
+octets-take (suc n) (x ∷ l) o zero = o 0
+octets-take (suc n) (x ∷ l) o (suc i) = octets-take n l (λ j. o (suc j)) i
+
+pub octets-part : (at n : ℕ) (s : List ℕ) → Octets s → Octets (part at n s)
+octets-part at n s o = octets-take n (drop at s) (octets-drop at s o)
 
 pub two-of : (l : List ℕ) → length l ≡ 2 → l ≡ getD l 0 0 ∷ getD l 1 0 ∷ []
 two-of [] h = absurd (omega arith)

@@ -1,13 +1,88 @@
--- The laws of every layout.
-use Prim.Native.Nat.{ℕ, _+_, _-_, _≤_, _<_}
+-- The laws of every layout, and that the blocks' layouts keep what they rest on.
+use Prim.Native.Nat.{ℕ, zero, suc, _+_, _-_, _≤_, _<_}
 use native.Mathlib.Omega.{arith}
 use mathlib.Core.Path.{_≡_, refl}
+use mathlib.Core.Bool.{Bool, true, false, _&&_, _||_, cond}
 use mathlib.Core.List.{List, [], _∷_}
-use lib.ListN.{length, getD}
-use Rattle.codec.specs.Layout.{Layout, number, octets, counted, least}
+use lib.Dec.{leb, eqb}
+use lib.ListN.{length, getD, replicate}
+use borrow.Author.Tests.{leb-true, eqb-true}
+use Rattle.codec.specs.Refusal.{accept, notAllowed, blockTooSmall}
+use Rattle.codec.specs.Octets.{Octets, part, ofLE}
+use Rattle.codec.specs.Layout.{Test, any, oneOf, between, Layout, number, octets, counted, member, inside, test, spell, zeroes, value, least, fault}
+use Rattle.codec.specs.Blocks.{capabilityBlock, configurationBlock}
+use Rattle.codec.specs.Places.{Roomy}
+use Rattle.codec.proofs.Outcomes.{and-true, or-true, demanded}
+
+-- ---- a layout whose counted octets fit their arrays
+
+abbrev pub within : Test → ℕ → Bool
+within any c = leb 255 c
+within (oneOf []) c = true
+within (oneOf (y ∷ l)) c = leb y c && within (oneOf l) c
+within (between low high) c = leb high c
+
+abbrev pub fits : Layout → Bool
+fits [] = true
+fits (number x w t ∷ L) = fits L
+fits (octets x n t ∷ L) = fits L
+fits (counted y x t c ∷ L) = within t c && fits L
+
+within-le : (t : Test) (c k : ℕ) → k < 256 → within t c ≡ true → test t k ≡ true → k ≤ c
+unfolding member inside
+within-le any c k b e h = omega (arith, leb-true 255 c e)
+within-le (oneOf []) c k b e h = let z : _≡_ {A = ℕ} 0 1 = cc in absurd (omega arith)
+within-le (oneOf (y ∷ l)) c k b e h =
+    let w = and-true (leb y c) (within (oneOf l) c) e in
+    or-true (eqb k y) (member l k) h (λ q. omega (arith, eqb-true k y q, leb-true y c (w .0))) (λ q. within-le (oneOf l) c k b (w .1) q)
+within-le (between low high) c k b e h = omega (arith, leb-true high c e, leb-true k high (and-true (leb low k) (leb k high) h .1))
+
+-- ---- sizes
 
 pub least-from : (L : Layout) (at : ℕ) → at ≤ least L at
 least-from [] at = omega arith
 least-from (number x w t ∷ L) at = omega (arith, least-from L (at + w))
 least-from (octets x n t ∷ L) at = omega (arith, least-from L (at + n))
 least-from (counted y x t c ∷ L) at = omega arith
+
+-- a block without a fault reaches past its last field
+pub roomy : (L : Layout) → fits L ≡ true → (at : ℕ) (s : List ℕ) → Octets s → least L at ≤ length s → fault L at s ≡ accept tt → Roomy L at s
+roomy [] f at s o h e = h
+roomy (number x w t ∷ L) f at s o h e = demanded (test t (ofLE w at s)) notAllowed _ tt e λ y e₁. roomy L f (at + w) s o h e₁
+roomy (octets x n t ∷ L) f at s o h e = demanded (spell t (part at n s)) notAllowed _ tt e λ y e₁. roomy L f (at + n) s o h e₁
+roomy (counted y x t c ∷ L) f at s o h e =
+    let g = and-true (within t c) (fits L) f in
+    demanded (test t (getD s at 0)) notAllowed _ tt e λ a e₁.
+    demanded (leb (least L (at + 1 + getD s at 0)) (length s)) blockTooSmall _ tt e₁ λ z e₂.
+    (within-le t c (getD s at 0) (o at) (g .0) a, roomy L (g .1) (at + 1 + getD s at 0) s o (leb-true _ _ z) e₂)
+
+-- ---- the blocks of a message, by technology ID
+
+module _ (capability : Bool) where
+  abbrev pub block : ℕ → Layout
+  block id = cond capability capabilityBlock configurationBlock id
+
+pub block-fits : (capability : Bool) (id : ℕ) → fits (block capability id) ≡ true
+block-fits true zero = refl
+block-fits true (suc zero) = refl
+block-fits true (suc (suc zero)) = refl
+block-fits true (suc (suc (suc zero))) = refl
+block-fits true (suc (suc (suc (suc id)))) = refl
+block-fits false zero = refl
+block-fits false (suc zero) = refl
+block-fits false (suc (suc zero)) = refl
+block-fits false (suc (suc (suc zero))) = refl
+block-fits false (suc (suc (suc (suc id)))) = refl
+
+-- a block of 20 zeros has zero fields
+pub block-zeros : (capability : Bool) (id : ℕ) → (value (block capability id) 2 (replicate 20 0) ≡ zeroes (block capability id)) × Roomy (block capability id) 2 (replicate 20 0)
+block-zeros true zero = (refl, omega arith)
+block-zeros true (suc zero) = (refl, omega arith)
+block-zeros true (suc (suc zero)) = (refl, omega arith)
+block-zeros true (suc (suc (suc zero))) = (refl, omega arith)
+block-zeros true (suc (suc (suc (suc id)))) = (refl, omega arith)
+block-zeros false zero = (refl, omega arith)
+block-zeros false (suc zero) = (refl, omega arith)
+block-zeros false (suc (suc zero)) = (refl, omega arith)
+block-zeros false (suc (suc (suc zero))) = (refl, omega arith)
+block-zeros false (suc (suc (suc (suc id)))) = (refl, omega arith)

@@ -1,6 +1,8 @@
 pub mod Laws
-pub mod Checks
+pub mod Outcomes
 pub mod Bits
 pub mod BlockCases
 pub mod Layouts
 pub mod WalkCases
+pub mod MessageCases
+pub mod Found

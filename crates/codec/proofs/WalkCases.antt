@@ -17,7 +17,7 @@ use Rattle.codec.specs.Technology.{bit}
 use Rattle.codec.specs.Message.{idOf, setOf, layoutsOf, blockAt, also, blockFault, Walked, before, walk}
 use Rattle.codec.specs.Places.{note, noted, Finds}
 use Rattle.codec.proofs.Laws.{part-length}
-use Rattle.codec.proofs.Checks.{by-number, and-true, demanded}
+use Rattle.codec.proofs.Outcomes.{by-number, and-true, demanded}
 use Rattle.codec.proofs.Bits.{bit-under}
 use Rattle.codec.proofs.Layouts.{least-from}
 

@@ -96,27 +96,32 @@ walk m (suc n) came at =
     accept (before (blockAt m at) w)
 
 -- End of the message: version 1 allows no octet more. In the versions above it octets after the known part are ignored.
-abbrev pub endsRight : List ℕ → ℕ → Bool
-endsRight m end = not (eqb (versionOf m) 1) || leb (length m) end
+unfoldable pub endFault : List ℕ → ℕ → Checked (Unit {0})
+endFault m end = demand (not (eqb (versionOf m) 1 && ltb end (length m))) leftOver (accept tt)
 
 -- after the last block, the rule for the end of the message
 unfoldable pub blocksFrom : List ℕ → ℕ → ℕ → Checked (List (List ℕ))
 blocksFrom m n at =
     andThen (walk m n nothing at) λ w.
-    demand (endsRight m (w .end)) leftOver
-    (accept (w .blocks))
+    andThen (endFault m (w .end)) λ _.
+    accept (w .blocks)
 
 -- ---- the order of checks: the blocks of a message that none of them refuses
+
+-- the version, then what follows the head
+unfoldable pub body : List ℕ → Checked (List (List ℕ))
+body m =
+    demand (readable (versionOf m) (idOf m)) wrongVersion
+    (demand (leb (start (idOf m)) (length m)) endsEarly
+    (demand (setsAgree m) setsDiffer
+    (blocksFrom m (blockCount (idOf m) (setOf m)) (start (idOf m)))))
 
 unfoldable pub parse : List ℕ → Checked (List (List ℕ))
 parse m =
     demand (leb (length m) messageLimit) tooLong
     (demand (leb 2 (length m)) endsEarly
     (demand (assigned (idOf m)) reservedId
-    (demand (readable (versionOf m) (idOf m)) wrongVersion
-    (demand (leb (start (idOf m)) (length m)) endsEarly
-    (demand (setsAgree m) setsDiffer
-    (blocksFrom m (blockCount (idOf m) (setOf m)) (start (idOf m))))))))
+    (body m)))
 
 -- ---- the record
 

@@ -2,14 +2,14 @@
 use Prim.Native.Nat.{ℕ, _+_, _≤_, _<_}
 use mathlib.Core.Path.{_≡_}
 use mathlib.Core.List.{List, [], _∷_}
-use mathlib.Core.Bool.{Bool, cond}
+use mathlib.Core.Bool.{Bool, true, cond}
 use lib.Dec.{ltb, eqb}
 use lib.ListN.{length, getD, set, replicate}
 use Rattle.codec.specs.Refusal.{Checked, refuse, accept, numberOf, numberIn}
 use Rattle.codec.specs.Layout.{Layout, number, octets, counted, value}
 use Rattle.codec.specs.Technology.{known}
 use Rattle.codec.specs.Records.{Column, capabilities, configurations, blank}
-use Rattle.codec.specs.Message.{Walked, idOf, setOf, blockAt, layoutsOf}
+use Rattle.codec.specs.Message.{Walked, idOf, setOf, blockAt}
 use Rattle.codec.specs.declared.records.Record.{Record}
 
 -- the octets of a block reach past its last field, and what is counted fits its array
@@ -34,10 +34,11 @@ abbrev pub Finds : Checked Walked → ℕ → List ℕ → ℕ → List ℕ → 
 Finds (refuse x) at found f left = f ≡ numberOf x
 Finds (accept w) at found f left = (f ≡ 0) × (left ≡ noted (w .blocks) at found) × (getD left 4 0 ≡ w .end)
 
--- the number of the first fault, and the places where there is none
-pub record Judged (c : Checked (List (List ℕ))) (at : ℕ) (found : List ℕ) (f : ℕ) (left : List ℕ) : Type 0 where
+-- the number of the first fault, and the places where there is none and they are kept
+pub record Judged (kept : Bool) (c : Checked (List (List ℕ))) (at : ℕ) (found : List ℕ) (f : ℕ) (left : List ℕ) : Type 0 where
   pub number : f ≡ numberIn c
-  pub places : (blocks : List (List ℕ)) → c ≡ accept blocks → left ≡ noted blocks at found
+  pub places : kept ≡ true → (blocks : List (List ℕ)) → c ≡ accept blocks → left ≡ noted blocks at found
+  pub size : length left ≡ 5
 
 -- ---- the record that the places give
 
@@ -57,6 +58,7 @@ recordAt m found = record {
 }
 
 -- whole blocks with room for all their fields stand at the places
-pub record Placed (m found : List ℕ) : Type 0 where
-  pub inside : (id : ℕ) → id < 4 → (getD found id 0 ≡ 0 → ⊥) → (getD found id 0 + 2 ≤ length m) × (getD found id 0 + getD m (getD found id 0 + 1) 0 ≤ length m)
-  pub roomy : (id : ℕ) → id < 4 → Roomy (layoutsOf (idOf m) id) 2 (blockOrZeros m (getD found id 0))
+pub record Placed (layouts : ℕ → Layout) (m found : List ℕ) : Type 0 where
+  pub whole : (id : ℕ) → id < 4 → (getD found id 0 ≡ 0 → ⊥) → (getD found id 0 + 2 ≤ length m) × (getD found id 0 + getD m (getD found id 0 + 1) 0 ≤ length m)
+  pub roomy : (id : ℕ) → id < 4 → Roomy (layouts id) 2 (blockOrZeros m (getD found id 0))
+  pub size : length found ≡ 5

@@ -1,5 +1,6 @@
 // The message format of Android Ranging out-of-band, version 1: records, and the reader of messages.
 mod blocks;
+mod checks;
 mod cs;
 mod nan;
 mod octets;

@@ -12,6 +12,13 @@ pub(crate) fn inside(low: u8, high: u8, x: u8) -> bool
     (low <= x) & (x <= high)
 }
 
+// A place that is kept in 16 bits.
+pub(crate) fn wide(x: u16) -> usize
+    ensures { λ r. ⌜ r ≡ x ⌝ }
+{
+    x as usize
+}
+
 fn joined16(low: u8, high: u8) -> u16
     ensures { λ r. ⌜ r ≡ low + 256 * high ⌝ }
 {

@@ -1,23 +1,94 @@
-// The reader.
+// The reader: the record of a message that the order of checks does not refuse is made once, from the places of its blocks.
+use crate::checks::message_fault;
+use crate::cs;
+use crate::nan;
+use crate::octets::u16_at;
+use crate::records::Capability;
+use crate::records::Configuration;
 use crate::records::Reading;
+use crate::records::Record;
 use crate::records::refused;
+use crate::records::zero_capability;
+use crate::records::zero_configuration;
+use crate::rssi;
+use crate::uwb;
 ghost use mathlib.Core.Path.{_≡_};
-ghost use Rattle.codec.specs.Message.{readable};
+ghost use mathlib.Core.Bool.{true};
+ghost use Prim.Native.Nat.{_+_, _≤_};
+ghost use lib.ListN.{length, getD, replicate};
+ghost use Rattle.codec.specs.Message.{idOf, carriesBlocks, layoutsOf, reading};
+ghost use Rattle.codec.specs.Records.{capabilities, configurations, answer};
+ghost use Rattle.codec.specs.Places.{Placed, blockOrZeros, columnAt, recordAt};
 
-fn readable(version: u8, id: u8) -> bool
-    ensures { λ r. ⌜ r ≡ readable version id ⌝ }
+// The octets of the block at a place; zeros, which read as zero fields, for place 0.
+fn block_or_zeros<'a>(m: &'a [u8], at: u16, zeros: &'a [u8]) -> &'a [u8]
+    requires { ⌜ (now zeros ≡ replicate 20 0) × ((at ≡ 0 → ⊥) → (at + 2 ≤ length (now m)) × (at + getD (now m) (at + 1) 0 ≤ length (now m))) ⌝ }
+    ensures { λ r. ⌜ now r ≡ blockOrZeros (now (m .entry)) at ⌝ }
 {
-    (version == 1) | ((1 < version) & (id < 2))
-}
-
-// One of two slices.
-fn block_or_zeros<'a>(m: &'a [u8], at: u16, zeros: &'a [u8]) -> &'a [u8] {
     if at == 0 {
         return zeros;
     }
-    m
+    let i = at as usize;
+    let end = i + m[i + 1] as usize;
+    &m[i..end]
 }
 
-pub fn read(m: &[u8]) -> Reading {
-    refused(1)
+// What the blocks of message 1 at these places say.
+fn capability_at(m: &[u8], found: &[u16; 5]) -> Capability
+    requires { ⌜ Placed (capabilities .layouts) (now m) (now found) ⌝ }
+    ensures { λ r. ⌜ r ≡ columnAt capabilities (now (m .entry)) (now (found .entry)) ⌝ }
+{
+    let zeros = [0u8; 20];
+    let uwb = uwb::capability(block_or_zeros(m, found[0], &zeros));
+    let cs = cs::capability(block_or_zeros(m, found[1], &zeros));
+    let nan = nan::capability(block_or_zeros(m, found[2], &zeros));
+    let rssi = rssi::block(block_or_zeros(m, found[3], &zeros));
+    Capability { uwb, cs, nan, rssi }
+}
+
+// What the blocks of message 2 at these places say.
+fn configuration_at(m: &[u8], found: &[u16; 5]) -> Configuration
+    requires { ⌜ Placed (configurations .layouts) (now m) (now found) ⌝ }
+    ensures { λ r. ⌜ r ≡ columnAt configurations (now (m .entry)) (now (found .entry)) ⌝ }
+{
+    let zeros = [0u8; 20];
+    let uwb = uwb::configuration(block_or_zeros(m, found[0], &zeros));
+    let cs = cs::configuration(block_or_zeros(m, found[1], &zeros));
+    let nan = nan::configuration(block_or_zeros(m, found[2], &zeros));
+    let rssi = rssi::block(block_or_zeros(m, found[3], &zeros));
+    Configuration { uwb, cs, nan, rssi }
+}
+
+// The record of a message that is not refused.
+fn record_at(m: &[u8], found: &[u16; 5]) -> Record
+    requires { ⌜ (4 ≤ length (now m)) × (carriesBlocks (idOf (now m)) ≡ true → Placed (layoutsOf (idOf (now m))) (now m) (now found)) ⌝ }
+    ensures { λ r. ⌜ r ≡ recordAt (now (m .entry)) (now (found .entry)) ⌝ }
+{
+    let id = m[1];
+    let set = u16_at(m, 2) % 16;
+    if id == 1 {
+        let capability = capability_at(m, found);
+        let configuration = zero_configuration();
+        return Record { id, set, capability, configuration };
+    }
+    let capability = zero_capability();
+    if id == 2 {
+        let configuration = configuration_at(m, found);
+        return Record { id, set, capability, configuration };
+    }
+    let configuration = zero_configuration();
+    Record { id, set, capability, configuration }
+}
+
+// Reads a message: its record, or the number of the refusal that the order of checks names.
+pub fn read(message: &[u8]) -> Reading
+    ensures { λ r. ⌜ r ≡ answer (reading (now (message .entry))) ⌝ }
+{
+    let mut found = [0u16; 5];
+    let fault = message_fault(message, &mut found);
+    if fault != 0 {
+        return refused(fault);
+    }
+    let value = record_at(message, &found);
+    Reading { refusal: 0, value }
 }

@@ -1,4 +1,4 @@
-use Rattle.codec.proofs.Checks.{by-number}
+use Rattle.codec.proofs.Outcomes.{by-number}
 use Rattle.codec.specs.Refusal.{numberIn}
 use Rattle.codec.proofs.WalkCases.{id-under}
 use Rattle.codec.proofs.WalkCases.{Sound, sound-if, find-none, find-stop, find-next}

@@ -1,0 +1,137 @@
+-- The cases of the order of checks.
+use Prim.Native.Nat.{ℕ, _≤_, _<_}
+use native.Mathlib.Omega.{arith}
+use native.Mathlib.Nat.{eq-or-lt-of-le}
+use mathlib.Core.Logic.{⊎-elim}
+use mathlib.Core.Path.{_≡_, refl, sym, ap, _∙_}
+use mathlib.Core.Bool.{Bool, true, false, not, _&&_, _||_}
+use mathlib.Core.List.{List, []}
+use lib.Dec.{eqb, ltb}
+use lib.ListN.{length, getD}
+use borrow.Author.Tests.{le-leb, lt-leb, ne-eqb}
+use Rattle.codec.specs.Refusal.{Checked, refuse, accept, demand, andThen, numberIn}
+use Rattle.codec.specs.Octets.{ofLE}
+use Rattle.codec.specs.Layout.{member}
+use Rattle.codec.specs.Message.{versionOf, idOf, assigned, readable, setOf, start, setsAgree, carriesBlocks, blockCount, nothing, Walked, walk, endFault, blocksFrom, body, parse}
+use Rattle.codec.specs.Places.{noted, Finds, Judged}
+use Rattle.codec.proofs.Outcomes.{no-zero, or-false}
+
+-- ---- what is judged
+
+module _ {kept : Bool} {c : Checked (List (List ℕ))} {at : ℕ} {found left : List ℕ} {f : ℕ} where
+  pub judged-refused : f ≡ numberIn c → (f ≡ 0 → ⊥) → length left ≡ 5 → Judged kept c at found f left
+  judged-refused e h l = record { number = e; places = λ k blocks a. absurd (h (e ∙ ap numberIn a)); size = l }
+
+  pub judged-alone : kept ≡ false → f ≡ numberIn c → length left ≡ 5 → Judged kept c at found f left
+  judged-alone k e l = record { number = e; places = λ t blocks a. let z : _≡_ {A = ℕ} 0 1 = cc in absurd (omega arith); size = l }
+
+  -- by another definition of the same checks
+  pub judged-as : {d : Checked (List (List ℕ))} → Judged kept c at found f left → c ≡ d → Judged kept d at found f left
+  judged-as j e = rw e at j
+
+-- ---- message IDs
+
+pub six-or-seven : (id : ℕ) → 6 ≤ id → id < 8 → (carriesBlocks id ≡ false) × (assigned id ≡ true)
+unfolding assigned member
+six-or-seven id l u = ⊎-elim (λ e. rw (← e) (refl, refl)) (λ h. let e : id ≡ 7 = omega arith in rw e (refl, refl)) (eq-or-lt-of-le l)
+
+pub not-assigned : (id : ℕ) → (id ≡ 0 → ⊥) → (id ≡ 1 → ⊥) → (id ≡ 2 → ⊥) → (id ≡ 3 → ⊥) → (id ≡ 6 → ⊥) → (id ≡ 7 → ⊥) → assigned id ≡ false
+unfolding assigned member
+not-assigned id n₀ n₁ n₂ n₃ n₆ n₇ = rw (ne-eqb id 0 n₀, ne-eqb id 1 n₁, ne-eqb id 2 n₂, ne-eqb id 3 n₃, ne-eqb id 6 n₆, ne-eqb id 7 n₇)
+
+-- ---- the end of the message, and the blocks
+
+module _ (m : List ℕ) (end : ℕ) where
+  pub end-left : (eqb (versionOf m) 1 && ltb end (length m)) ≡ true → 9 ≡ numberIn (endFault m end)
+  unfolding endFault
+  end-left t = rw t
+
+  pub end-none : (eqb (versionOf m) 1 && ltb end (length m)) ≡ false → 0 ≡ numberIn (endFault m end)
+  unfolding endFault
+  end-none t = rw t
+
+module _ (m : List ℕ) (n at : ℕ) (found : List ℕ) {f : ℕ} {left : List ℕ} (l : length left ≡ 5) (h : Finds (walk m n nothing at) at found f left) where
+  pub blocks-stop : (f ≡ 0 → ⊥) → Judged true (blocksFrom m n at) at found f left
+  unfolding blocksFrom
+  blocks-stop z = go (walk m n nothing at) h
+    where
+      go : (w : Checked Walked) → Finds w at found f left → Judged true (andThen w λ w. andThen (endFault m (w .end)) λ _. accept (w .blocks)) at found f left
+      go (refuse x) h = judged-refused h z l
+      go (accept w) h = absurd (z (h .0))
+
+  pub blocks-end : {g : ℕ} → f ≡ 0 → g ≡ numberIn (endFault m (getD left 4 0)) → Judged true (blocksFrom m n at) at found g left
+  unfolding blocksFrom
+  blocks-end {g} z e = go (walk m n nothing at) h
+    where
+      last : (w : Walked) (c : Checked (Unit {0})) → left ≡ noted (w .blocks) at found → g ≡ numberIn c → Judged true (andThen c λ _. accept (w .blocks)) at found g left
+      last w (refuse x) p e = judged-refused e (λ z. no-zero x (sym e ∙ z)) l
+      last w (accept u) p e = record { number = e; places = λ k blocks a. let q : w .blocks ≡ blocks = cc in p ∙ rw q; size = l }
+      go : (w : Checked Walked) → Finds w at found f left → Judged true (andThen w λ w. andThen (endFault m (w .end)) λ _. accept (w .blocks)) at found g left
+      go (refuse x) h = absurd (no-zero x (sym h ∙ z))
+      go (accept w) h = last w (endFault m (w .end)) (h .1) (e ∙ rw (h .2))
+
+-- ---- the version, and what follows the head
+
+module _ (m : List ℕ) where
+  pub body-unread : readable (versionOf m) (idOf m) ≡ false → 4 ≡ numberIn (body m)
+  unfolding body
+  body-unread e = rw e
+
+  module _ (r : readable (versionOf m) (idOf m) ≡ true) where
+    pub body-short : length m < start (idOf m) → 2 ≡ numberIn (body m)
+    unfolding body
+    body-short l = rw (r, lt-leb _ _ l)
+
+    -- message 1
+    module _ (i : idOf m ≡ 1) where
+      pub response-short : length m < 4 → 2 ≡ numberIn (body m)
+      response-short l = body-short (rw i l)
+
+      pub response-blocks : 4 ≤ length m → blocksFrom m (blockCount 1 (setOf m)) 4 ≡ body m
+      unfolding body
+      response-blocks l = rw (r, i, le-leb 4 (length m) l)
+
+    -- message 2
+    module _ (i : idOf m ≡ 2) where
+      pub configuration-short : length m < 6 → 2 ≡ numberIn (body m)
+      configuration-short l = body-short (rw i l)
+
+      pub configuration-sets : 6 ≤ length m → eqb (setOf m) (ofLE 2 4 m) ≡ false → 5 ≡ numberIn (body m)
+      unfolding body
+      configuration-sets l s = rw (r, i, le-leb 6 (length m) l, s)
+
+      pub configuration-blocks : 6 ≤ length m → eqb (setOf m) (ofLE 2 4 m) ≡ true → blocksFrom m (blockCount 2 (setOf m)) 6 ≡ body m
+      unfolding body
+      configuration-blocks l s = rw (r, i, le-leb 6 (length m) l, s)
+
+    -- the other messages
+    module _ (b : carriesBlocks (idOf m) ≡ false) where
+      pub set-short : length m < 4 → 2 ≡ numberIn (body m)
+      set-short l = body-short (rw (or-false (eqb (idOf m) 1) (eqb (idOf m) 2) b .1) l)
+
+      pub set-end : 4 ≤ length m → numberIn (endFault m 4) ≡ numberIn (body m)
+      unfolding body blocksFrom walk
+      set-end l = rw (r, b, or-false (eqb (idOf m) 1) (eqb (idOf m) 2) b .1, le-leb 4 (length m) l) (go (endFault m 4))
+        where
+          go : (c : Checked (Unit {0})) → numberIn c ≡ numberIn (andThen {B = List (List ℕ)} c λ _. accept [])
+          go (refuse x) = refl
+          go (accept u) = refl
+
+  -- ---- the whole message
+
+  pub parse-long : 256 < length m → 1 ≡ numberIn (parse m)
+  unfolding parse
+  parse-long l = rw (lt-leb _ _ l)
+
+  pub parse-short : length m < 2 → 2 ≡ numberIn (parse m)
+  unfolding parse
+  parse-short l = rw (le-leb (length m) 256 (omega arith), lt-leb _ _ l)
+
+  module _ (u : length m ≤ 256) (l : 2 ≤ length m) where
+    pub parse-reserved : assigned (idOf m) ≡ false → 3 ≡ numberIn (parse m)
+    unfolding parse
+    parse-reserved e = rw (le-leb (length m) 256 u, le-leb 2 (length m) l, e)
+
+    pub parse-body : assigned (idOf m) ≡ true → body m ≡ parse m
+    unfolding parse
+    parse-body e = rw (le-leb (length m) 256 u, le-leb 2 (length m) l, e)

@@ -1,0 +1,14 @@
+use Rattle.codec.specs.Message.{readable}
+use mathlib.Core.Path.{refl}
+use Rattle.codec.proofs.checks.readable.Statement.{statement}
+use Rattle.codec.proofs.checks.readable.Tie as tie
+use Rattle.codec.proofs.checks.readable.Reads as reads
+use Rattle.codec.proofs.checks.readable.Lts as lts
+
+-- src/checks.rt:22:1
+returns : tie.Need-returns
+unfolding readable
+returns c = refl
+
+pub readable-spec : {M : Type 1} → statement M
+readable-spec = tie.close (tie.spec returns)

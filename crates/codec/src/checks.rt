@@ -1,0 +1,114 @@
+// The order of checks: the number of a message's first fault, and the places of its blocks where there is none.
+use crate::octets::u16_at;
+use crate::octets::wide;
+use crate::refusal::ENDS_EARLY;
+use crate::refusal::LEFT_OVER;
+use crate::refusal::RESERVED_ID;
+use crate::refusal::SETS_DIFFER;
+use crate::refusal::TOO_LONG;
+use crate::refusal::WRONG_VERSION;
+use crate::walk::walk;
+ghost use mathlib.Core.Path.{_≡_};
+ghost use mathlib.Core.Bool.{true, false};
+ghost use Prim.Native.Nat.{_≤_};
+ghost use lib.Count.{ones};
+ghost use lib.ListN.{length};
+ghost use Rattle.codec.specs.Refusal.{numberIn};
+ghost use Rattle.codec.specs.Message.{idOf, setOf, carriesBlocks, readable, endFault, blocksFrom, body, parse, start};
+ghost use Rattle.codec.specs.Places.{Judged};
+
+// A message has at most so many octets.
+const MESSAGE_LIMIT: usize = 256;
+
+fn readable(version: u8, id: u8) -> bool
+    ensures { λ r. ⌜ r ≡ readable version id ⌝ }
+{
+    (version == 1) | ((1 < version) & (id < 2))
+}
+
+// The rule for the end of the message, from the place after its known part.
+fn end_fault(m: &[u8], end: usize) -> u8
+    requires { ⌜ 4 ≤ length (now m) ⌝ }
+    ensures { λ r. ⌜ r ≡ numberIn (endFault (now (m .entry)) end) ⌝ }
+{
+    if (m[0] == 1) & (end < m.len()) {
+        return LEFT_OVER;
+    }
+    0
+}
+
+// The first fault of a message that carries a set alone, 0 for none.
+fn set_fault(m: &[u8]) -> u8
+    requires { ⌜ (2 ≤ length (now m)) × (carriesBlocks (idOf (now m)) ≡ false) ⌝ }
+    ensures { λ f. ⌜ f ≡ numberIn (body (now (m .entry))) ⌝ }
+{
+    if !readable(m[0], m[1]) {
+        return WRONG_VERSION;
+    }
+    if m.len() < 4 {
+        return ENDS_EARLY;
+    }
+    end_fault(m, 4)
+}
+
+// The first fault from the blocks on; for none it is 0, and `found` has the places of the blocks.
+fn blocks_fault(m: &[u8], at: usize, found: &mut [u16; 5]) -> u8
+    requires { ⌜ (4 ≤ length (now m)) × (length (now m) ≤ 256) × (at ≤ length (now m)) × (length (now found) ≡ 5) ⌝ }
+    ensures { λ f. ⌜ Judged true (blocksFrom (now (m .entry)) (ones (setOf (now (m .entry)))) at) at (now (found .entry)) f (now (found .exit)) ⌝ }
+{
+    let fault = walk(m, at, u16::count_ones(u16_at(m, 2)), 0, found);
+    if fault != 0 {
+        return fault;
+    }
+    end_fault(m, wide(found[4]))
+}
+
+// The first fault of a Capability Response.
+fn response_fault(m: &[u8], found: &mut [u16; 5]) -> u8
+    requires { ⌜ (2 ≤ length (now m)) × (length (now m) ≤ 256) × (idOf (now m) ≡ 1) × (length (now found) ≡ 5) ⌝ }
+    ensures { λ f. ⌜ Judged true (body (now (m .entry))) 4 (now (found .entry)) f (now (found .exit)) ⌝ }
+{
+    if !readable(m[0], m[1]) {
+        return WRONG_VERSION;
+    }
+    if m.len() < 4 {
+        return ENDS_EARLY;
+    }
+    blocks_fault(m, 4, found)
+}
+
+// The first fault of a Configuration.
+fn configuration_fault(m: &[u8], found: &mut [u16; 5]) -> u8
+    requires { ⌜ (2 ≤ length (now m)) × (length (now m) ≤ 256) × (idOf (now m) ≡ 2) × (length (now found) ≡ 5) ⌝ }
+    ensures { λ f. ⌜ Judged true (body (now (m .entry))) 6 (now (found .entry)) f (now (found .exit)) ⌝ }
+{
+    if !readable(m[0], m[1]) {
+        return WRONG_VERSION;
+    }
+    if m.len() < 6 {
+        return ENDS_EARLY;
+    }
+    if u16_at(m, 2) != u16_at(m, 4) {
+        return SETS_DIFFER;
+    }
+    blocks_fault(m, 6, found)
+}
+
+// The first fault of a message; for none it is 0, and `found` has the places of the blocks of message 1 or 2.
+pub(crate) fn message_fault(m: &[u8], found: &mut [u16; 5]) -> u8
+    requires { ⌜ length (now found) ≡ 5 ⌝ }
+    ensures { λ f. ⌜ Judged (carriesBlocks (idOf (now (m .entry)))) (parse (now (m .entry))) (start (idOf (now (m .entry)))) (now (found .entry)) f (now (found .exit)) ⌝ }
+{
+    if MESSAGE_LIMIT < m.len() {
+        return TOO_LONG;
+    }
+    if m.len() < 2 {
+        return ENDS_EARLY;
+    }
+    match m[1] {
+        0 | 3 | 6 | 7 => set_fault(m),
+        1 => response_fault(m, found),
+        2 => configuration_fault(m, found),
+        4..=5 | 8..=255 => RESERVED_ID,
+    }
+}
