@@ -1,14 +1,15 @@
 -- Laws on tests and lists that several proofs cite.
-use Prim.Native.Nat.{ℕ, zero, suc, _+_, _-_, _≤_}
+use Prim.Native.Nat.{ℕ, zero, suc, _+_, _-_, _*_, _/_, _%_, _^_, _≤_, _<_}
 use mathlib.Core.Path.{_≡_, refl, sym, ap, _∙_}
 use mathlib.Core.Bool.{Bool, true, false, not}
 use mathlib.Core.List.{List, [], _∷_, _++_, append-nil}
 use native.Mathlib.Omega.{arith}
-use native.Mathlib.Nat.{add-sub-cancel-left, zero-sub, sub-zero, suc-sub-suc, sub-self}
-use lib.ListN.{length, getD, take, drop, replicate, length-drop, length-take}
-use lib.Seq.{take-all, getD-drop}
+use native.Mathlib.Nat.{add-sub-cancel-left, zero-sub, sub-zero, suc-sub-suc, sub-self, add-zero, pow-suc}
+use native.Mathlib.Numerals.{add-one}
+use lib.ListN.{length, getD, take, drop, replicate, length-append, length-drop, length-take}
+use lib.Seq.{take-all, take-at, drop-at, drop-drop, drop-cons, getD-drop}
 use borrow.Author.Tests.{not-true, not-false}
-use Rattle.codec.specs.Octets.{Octets, part}
+use Rattle.codec.specs.Octets.{Octets, part, ofLE, toLE}
 
 -- ---- from an `if !test(..)` to the test's meaning
 
@@ -35,6 +36,22 @@ octets-take (suc n) (x ∷ l) o (suc i) = octets-take n l (λ j. o (suc j)) i
 pub octets-part : (at n : ℕ) (s : List ℕ) → Octets s → Octets (part at n s)
 octets-part at n s o = octets-take n (drop at s) (octets-drop at s o)
 
+-- what follows others in a list, from a place on
+
+pub head-at : (at : ℕ) (s : List ℕ) → getD s at 0 ≡ getD (drop at s) 0 0
+head-at at s = sym (getD-drop at s 0 0 ∙ rw add-zero)
+
+pub after : (at n : ℕ) (s a r : List ℕ) → drop at s ≡ a ++ r → length a ≡ n → drop (at + n) s ≡ r
+after at n s a r e h = sym (drop-drop n at s) ∙ ap (drop n) e ∙ drop-at a r n h
+
+pub room : (at n : ℕ) (s a r : List ℕ) → at ≤ length s → drop at s ≡ a ++ r → length a ≡ n → at + n ≤ length s
+room at n s a r u e h =
+    let m : length s - at ≡ length a + length r = sym (length-drop at s) ∙ ap length e ∙ length-append a r in
+    omega arith
+
+pub here : (at n : ℕ) (s a r : List ℕ) → drop at s ≡ a ++ r → length a ≡ n → part at n s ≡ a
+here at n s a r e h = ap (take n) e ∙ take-at a r n h
+
 pub two-of : (l : List ℕ) → length l ≡ 2 → l ≡ getD l 0 0 ∷ getD l 1 0 ∷ []
 two-of [] h = absurd (omega arith)
 two-of (x ∷ []) h = absurd (omega arith)
@@ -57,3 +74,29 @@ copied s at k n fits =
 pub copied-all : (s : List ℕ) (at n : ℕ) → at + n ≤ length s
     → take (length (part at (at + n - at) s)) (part at (at + n - at) s) ++ drop (length (part at (at + n - at) s)) (replicate n 0) ≡ part at n s
 copied-all s at n fits = copied s at n n fits ∙ ap (λ (j : ℕ). part at n s ++ replicate j 0) (sub-self n) ∙ append-nil (part at n s)
+
+-- ---- numbers
+
+pub long-LE : (w x : ℕ) → length (toLE w x) ≡ w
+long-LE zero x = refl
+long-LE (suc zero) x = refl
+long-LE (suc (suc w)) x = ap suc (long-LE (suc w) (x / 256))
+
+pub back-LE : (w x at : ℕ) (s r : List ℕ) → x < 256 ^ w → drop at s ≡ toLE w x ++ r → ofLE w at s ≡ x
+back-LE zero x at s r h e = omega arith
+back-LE (suc zero) x at s r h e = head-at at s ∙ ap (λ (l : List ℕ). getD l 0 0) e
+back-LE (suc (suc w)) x at s r h e =
+    let p : x < 256 ^ suc w * 256 = rw pow-suc at h in
+    let a : getD s at 0 ≡ x % 256 = head-at at s ∙ ap (λ (l : List ℕ). getD l 0 0) e in
+    let b = back-LE (suc w) (x / 256) (at + 1) s r (omega arith) (after at 1 s (x % 256 ∷ []) (toLE (suc w) (x / 256) ++ r) e refl) in
+    rw (a, b) (omega arith)
+
+pub forth-LE : (w at : ℕ) (s : List ℕ) → Octets s → at + w ≤ length s → toLE w (ofLE w at s) ≡ part at w s
+forth-LE zero at s o h = refl
+forth-LE (suc zero) at s o h = rw (drop-cons s at 0 (omega arith))
+forth-LE (suc (suc w)) at s o h =
+    let b = o at in
+    let v = ofLE (suc w) (at + 1) s in
+    let low : (getD s at 0 + 256 * v) % 256 ≡ getD s at 0 = omega arith in
+    let high : (getD s at 0 + 256 * v) / 256 ≡ v = omega arith in
+    rw (low, high, drop-cons s at 0 (omega arith)) (ap (λ (t : List ℕ). getD s at 0 ∷ t) (forth-LE (suc w) (at + 1) s o (omega arith) ∙ ap (λ (k : ℕ). part k (suc w) s) (add-one at)))

@@ -6,10 +6,10 @@ use mathlib.Core.Bool.{Bool, true, false, _&&_, _||_, cond}
 use mathlib.Core.List.{List, [], _∷_}
 use lib.Dec.{leb, eqb}
 use lib.ListN.{length, getD, replicate}
-use borrow.Author.Tests.{leb-true, eqb-true}
+use borrow.Author.Tests.{le-leb, leb-true, eqb-true}
 use Rattle.codec.specs.Refusal.{accept, notAllowed, blockTooSmall}
 use Rattle.codec.specs.Octets.{Octets, part, ofLE}
-use Rattle.codec.specs.Layout.{Test, any, oneOf, between, Layout, number, octets, counted, member, inside, test, spell, zeroes, value, least, fault}
+use Rattle.codec.specs.Layout.{Test, any, oneOf, between, Layout, number, octets, counted, member, inside, test, spell, zeroes, allowed, value, need, least, fault}
 use Rattle.codec.specs.Blocks.{capabilityBlock, configurationBlock}
 use Rattle.codec.specs.Places.{Roomy}
 use Rattle.codec.proofs.Outcomes.{and-true, or-true, demanded}
@@ -55,6 +55,33 @@ roomy (counted y x t c ∷ L) f at s o h e =
     demanded (test t (getD s at 0)) notAllowed _ tt e λ a e₁.
     demanded (leb (least L (at + 1 + getD s at 0)) (length s)) blockTooSmall _ tt e₁ λ z e₂.
     (within-le t c (getD s at 0) (o at) (g .0) a, roomy L (g .1) (at + 1 + getD s at 0) s o (leb-true _ _ z) e₂)
+
+pub least-need : (L : Layout) (at : ℕ) (s : List ℕ) → least L at ≤ need L at s
+least-need [] at s = omega arith
+least-need (number x w t ∷ L) at s = least-need L (at + w) s
+least-need (octets x n t ∷ L) at s = least-need L (at + n) s
+least-need (counted y x t c ∷ L) at s = omega (arith, least-from L (at + 1 + getD s at 0), least-need L (at + 1 + getD s at 0) s)
+
+-- ---- a block without a fault holds its need, and its fields are allowed; and the other way round
+
+pub no-fault : (L : Layout) (at : ℕ) (s : List ℕ) → least L at ≤ length s → fault L at s ≡ accept tt → (need L at s ≤ length s) × (allowed L (value L at s) ≡ true)
+no-fault [] at s h e = (h, refl)
+no-fault (number x w t ∷ L) at s h e = demanded (test t (ofLE w at s)) notAllowed _ tt e λ y e₁. let m = no-fault L (at + w) s h e₁ in (m .0, rw (y, m .1))
+no-fault (octets x n t ∷ L) at s h e = demanded (spell t (part at n s)) notAllowed _ tt e λ y e₁. let m = no-fault L (at + n) s h e₁ in (m .0, rw (y, m .1))
+no-fault (counted y x t c ∷ L) at s h e =
+    demanded (test t (getD s at 0)) notAllowed _ tt e λ a e₁.
+    demanded (leb (least L (at + 1 + getD s at 0)) (length s)) blockTooSmall _ tt e₁ λ z e₂.
+    let m = no-fault L (at + 1 + getD s at 0) s (leb-true _ _ z) e₂ in
+    (m .0, rw (a, m .1))
+
+pub fault-none : (L : Layout) (at : ℕ) (s : List ℕ) → need L at s ≤ length s → allowed L (value L at s) ≡ true → fault L at s ≡ accept tt
+fault-none [] at s h e = refl
+fault-none (number x w t ∷ L) at s h e = let a = and-true (test t (ofLE w at s)) (allowed L (value L (at + w) s)) e in rw (a .0) (fault-none L (at + w) s h (a .1))
+fault-none (octets x n t ∷ L) at s h e = let a = and-true (spell t (part at n s)) (allowed L (value L (at + n) s)) e in rw (a .0) (fault-none L (at + n) s h (a .1))
+fault-none (counted y x t c ∷ L) at s h e =
+    let k = at + 1 + getD s at 0 in
+    let a = and-true (test t (getD s at 0)) (allowed L (value L k s)) e in
+    rw (a .0, le-leb (least L k) (length s) (omega (arith, least-need L k s))) (fault-none L k s h (a .1))
 
 -- ---- the blocks of a message, by technology ID
 

@@ -6,3 +6,5 @@ pub mod Layouts
 pub mod WalkCases
 pub mod MessageCases
 pub mod Found
+pub mod Exact
+pub mod StarredTable

@@ -6,3 +6,5 @@ pub mod Records
 pub mod Technology
 pub mod Message
 pub mod Places
+pub mod WellFormed
+pub mod Starred
