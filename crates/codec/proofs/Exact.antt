@@ -1,29 +1,29 @@
 -- Exact acceptance: the reader accepts exactly the well-formed messages, each with its record.
-use Prim.Native.Nat.{ℕ, zero, suc, _+_, _-_, _/_, _^_, _≤_, _<_}
+use Prim.Native.Nat.{ℕ, zero, suc, _+_, _-_, _/_, _≤_, _<_}
 use native.Mathlib.Omega.{arith}
 use native.Mathlib.Nat.{add-assoc, add-zero}
 use mathlib.Core.Path.{_≡_, refl, sym, ap, _∙_, subst}
-use mathlib.Core.Logic.{_↔_, _⊎_, inl, inr, ⊎-elim}
-use mathlib.Core.Bool.{Bool, true, false, not, _&&_, _||_, cond}
-use mathlib.Core.List.{List, [], _∷_, _++_, append-assoc, append-nil, flatten}
-use lib.Dec.{leb, ltb, eqb}
-use lib.ListN.{length, getD, take, drop, length-append, take-append-drop, length-drop, drop-of-length-le, List·getD-append}
+use mathlib.Core.Logic.{_↔_, _⊎_, inl, inr}
+use mathlib.Core.Bool.{Bool, true, false, not, _&&_, cond}
+use mathlib.Core.List.{List, [], _∷_, _++_, append-assoc, flatten}
+use lib.Dec.{ltb, eqb}
+use lib.ListN.{length, getD, drop, length-append, take-append-drop, length-drop, drop-of-length-le, List·getD-append}
 use lib.Seq.{getD-take, getD-drop, drop-drop}
-use borrow.Author.Tests.{eqb-true, eqb-false, eq-eqb, ne-eqb, le-leb, leb-true, lt-ltb, le-ltb, ltb-true, ltb-false, not-true}
+use borrow.Author.Tests.{eqb-true, eqb-false, eq-eqb, ne-eqb, le-leb, lt-ltb, le-ltb, ltb-true, ltb-false, not-true}
 use Rattle.codec.specs.Refusal.{Checked, refuse, accept, andThen, leftOver}
 use Rattle.codec.specs.Octets.{Octets, part, ofLE, toLE}
-use Rattle.codec.specs.Layout.{Layout, need, least}
+use Rattle.codec.specs.Layout.{least}
 use Rattle.codec.specs.Technology.{bit}
 use Rattle.codec.specs.Message.{messageLimit, versionOf, idOf, assigned, readable, setOf, start, setsAgree, blockCount, layoutsOf, blockAt, also, nothing, blockFault, Walked, before, walk, endFault, blocksFrom, body, parse, recordOf, reading}
 use Rattle.codec.specs.Records.{accepted, answer}
 use Rattle.codec.specs.WellFormed.{Whole, Each, Once, sets, WellFormed}
 use Rattle.codec.specs.declared.records.Record.{Record}
 use Rattle.codec.specs.declared.records.Reading.{Reading}
-use Rattle.codec.proofs.Laws.{part-length, head-at, after, room, here, long-LE, back-LE, forth-LE}
+use Rattle.codec.proofs.Laws.{head-at, after, room, here, back-LE, forth-LE}
 use Rattle.codec.proofs.Outcomes.{by-bool, and-true, or-true, or-false, no-zero, demanded, chained}
 use Rattle.codec.proofs.Layouts.{least-from, least-need, no-fault, fault-none}
 use Rattle.codec.proofs.WalkCases.{Sound, sound}
-use Rattle.codec.proofs.Found.{Parsed, parsed}
+use Rattle.codec.proofs.Found.{parsed}
 
 -- ---- the blocks of an accepted message
 
@@ -75,7 +75,7 @@ module _ (m : List ℕ) where
       let f = fresh-apart (getD m at 0) came (w₁ .blocks) (r .fresh) in
       let lie : drop at m ≡ (blockAt m at ++ flatten (w₁ .blocks)) ++ drop (w₁ .end) m =
       sym (take-append-drop (getD m (at + 1) 0) (drop at m)) ∙ ap (λ (l : List ℕ). blockAt m at ++ l) (drop-drop (getD m (at + 1) 0) at m ∙ r .lie)
-          ∙ sym (append-assoc (blockAt m at) (flatten (w₁ .blocks)) (drop (w₁ .end) m)) in
+      ∙ sym (append-assoc (blockAt m at) (flatten (w₁ .blocks)) (drop (w₁ .end) m)) in
       subst (λ (w : Walked). Lies (suc n) came at (w .blocks) (w .end)) q
       (record {
         lie = lie;
@@ -280,5 +280,6 @@ exact m o r = (forwards, backwards)
   where
     forwards : answer (reading m) ≡ accepted r → WellFormed m r
     forwards e = let a = accept-is m r (parse m) e in subst (WellFormed m) (a .2) (forth m o (a .0) (a .1))
+
     backwards : WellFormed m r → answer (reading m) ≡ accepted r
     backwards f = rw (back m o r f) (ap accepted (rw (id-is m o r f, set-is m o r f) (sym (f .says))))

@@ -1,16 +1,16 @@
 -- The places that the walk keeps are those of its blocks, and the record that they give is the message's.
-use Prim.Native.Nat.{ℕ, zero, suc, _+_, _-_, _≤_, _<_}
+use Prim.Native.Nat.{ℕ, zero, suc, _+_, _≤_, _<_}
 use native.Mathlib.Omega.{arith}
 use mathlib.Core.Path.{_≡_, refl, sym, ap, _∙_, subst, fun-ext}
-use mathlib.Core.Bool.{Bool, true, false, not, _&&_, _||_, cond}
+use mathlib.Core.Bool.{Bool, true, false, not, cond}
 use mathlib.Core.List.{List, [], _∷_}
 use lib.Dec.{leb, ltb, eqb}
 use lib.ListN.{length, getD, set, replicate, getD-replicate, length-set}
 use lib.Seq.{getD-set-same, getD-set-other}
-use borrow.Author.Tests.{eqb-true, eqb-false, eq-eqb, ne-eqb, lt-ltb, le-ltb, not-true, leb-true, leb-false}
+use borrow.Author.Tests.{eqb-true, eqb-false, ne-eqb, lt-ltb, not-true, leb-true, leb-false}
 use Rattle.codec.specs.Refusal.{Checked, refuse, accept, andThen, numberIn, tooLong, endsEarly, reservedId, wrongVersion, setsDiffer}
-use Rattle.codec.specs.Octets.{Octets, part}
-use Rattle.codec.specs.Layout.{Layout, Values, zeroes, value, fault, least}
+use Rattle.codec.specs.Octets.{Octets}
+use Rattle.codec.specs.Layout.{Layout, Values, zeroes, value}
 use Rattle.codec.specs.Technology.{bit, known}
 use Rattle.codec.specs.Message.{messageLimit, versionOf, idOf, assigned, readable, setsAgree, blockCount, setOf, start, carriesBlocks, layoutsOf, blockAt, also, nothing, blockFault, Walked, before, walk, endFault, blocksFrom, body, parse, fieldsIn, columnOf, recordOf, reading}
 use Rattle.codec.specs.Places.{Roomy, note, noted, blockOrZeros, Placed, recordAt, columnAt}

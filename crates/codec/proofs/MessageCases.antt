@@ -4,15 +4,15 @@ use native.Mathlib.Omega.{arith}
 use native.Mathlib.Nat.{eq-or-lt-of-le}
 use mathlib.Core.Logic.{⊎-elim}
 use mathlib.Core.Path.{_≡_, refl, sym, ap, _∙_}
-use mathlib.Core.Bool.{Bool, true, false, not, _&&_, _||_}
+use mathlib.Core.Bool.{Bool, true, false, _&&_}
 use mathlib.Core.List.{List, []}
 use lib.Dec.{eqb, ltb}
 use lib.ListN.{length, getD}
 use borrow.Author.Tests.{le-leb, lt-leb, ne-eqb}
-use Rattle.codec.specs.Refusal.{Checked, refuse, accept, demand, andThen, numberIn}
+use Rattle.codec.specs.Refusal.{Checked, refuse, accept, andThen, numberIn}
 use Rattle.codec.specs.Octets.{ofLE}
 use Rattle.codec.specs.Layout.{member}
-use Rattle.codec.specs.Message.{versionOf, idOf, assigned, readable, setOf, start, setsAgree, carriesBlocks, blockCount, nothing, Walked, walk, endFault, blocksFrom, body, parse}
+use Rattle.codec.specs.Message.{versionOf, idOf, assigned, readable, setOf, start, carriesBlocks, blockCount, nothing, Walked, walk, endFault, blocksFrom, body, parse}
 use Rattle.codec.specs.Places.{noted, Finds, Judged}
 use Rattle.codec.proofs.Outcomes.{no-zero, or-false}
 
@@ -66,6 +66,7 @@ module _ (m : List ℕ) (n at : ℕ) (found : List ℕ) {f : ℕ} {left : List �
       last : (w : Walked) (c : Checked (Unit {0})) → left ≡ noted (w .blocks) at found → g ≡ numberIn c → Judged true (andThen c λ _. accept (w .blocks)) at found g left
       last w (refuse x) p e = judged-refused e (λ z. no-zero x (sym e ∙ z)) l
       last w (accept u) p e = record { number = e; places = λ k blocks a. let q : w .blocks ≡ blocks = cc in p ∙ rw q; size = l }
+
       go : (w : Checked Walked) → Finds w at found f left → Judged true (andThen w λ w. andThen (endFault m (w .end)) λ _. accept (w .blocks)) at found g left
       go (refuse x) h = absurd (no-zero x (sym h ∙ z))
       go (accept w) h = last w (endFault m (w .end)) (h .1) (e ∙ rw (h .2))

@@ -1,7 +1,7 @@
 -- Laws of checks: what an acceptance says of each, and the number of a refusal.
 use Prim.Native.Nat.{ℕ}
 use native.Mathlib.Omega.{arith}
-use mathlib.Core.Path.{_≡_, refl, sym, _∙_}
+use mathlib.Core.Path.{_≡_, refl}
 use mathlib.Core.Bool.{Bool, true, false, _&&_, _||_}
 use Rattle.codec.specs.Refusal.{Refusal, tooLong, endsEarly, reservedId, wrongVersion, setsDiffer, blockTooSmall, wrongBlock, notAllowed, leftOver, numberOf, Checked, refuse, accept, demand, andThen, numberIn}
 

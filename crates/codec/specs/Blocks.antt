@@ -1,6 +1,6 @@
 -- The blocks: 01's table, a row for each technology, in the table's order and by its names.
-use Prim.Native.Nat.{ℕ, zero, suc, _+_}
-use mathlib.Core.List.{List, [], _∷_}
+use Prim.Native.Nat.{ℕ, zero, suc}
+use mathlib.Core.List.{[], _∷_}
 use Rattle.codec.specs.Layout.{Test, any, oneOf, between, free, letters, number, octets, counted, Layout}
 
 -- ---- what both columns allow

@@ -4,7 +4,6 @@ use mathlib.Core.Path.{_≡_}
 use mathlib.Core.List.{List, [], _∷_}
 use Rattle.codec.specs.Records.{capabilities, configurations, blank, accepted, refused, answer}
 use Rattle.codec.specs.Message.{reading}
-use Rattle.codec.specs.WellFormed.{Each}
 use Rattle.codec.specs.declared.records.Record.{Record}
 use Rattle.codec.specs.declared.records.Reading.{Reading}
 

@@ -69,15 +69,30 @@ fn record_at(m: &[u8], found: &[u16; 5]) -> Record
     if id == 1 {
         let capability = capability_at(m, found);
         let configuration = zero_configuration();
-        return Record { id, set, capability, configuration };
+        return Record {
+            id,
+            set,
+            capability,
+            configuration,
+        };
     }
     let capability = zero_capability();
     if id == 2 {
         let configuration = configuration_at(m, found);
-        return Record { id, set, capability, configuration };
+        return Record {
+            id,
+            set,
+            capability,
+            configuration,
+        };
     }
     let configuration = zero_configuration();
-    Record { id, set, capability, configuration }
+    Record {
+        id,
+        set,
+        capability,
+        configuration,
+    }
 }
 
 // Reads a message: its record, or the number of the refusal that the order of checks names.

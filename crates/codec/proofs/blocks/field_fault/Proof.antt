@@ -1,63 +1,41 @@
 use Rattle.codec.proofs.BlockCases.{capability-sound, configuration-sound}
 use borrow.Author.Tests.{eq-eqb, ne-eqb}
-use lib.ListN.{length}
-use mathlib.Core.Path.{_∙_}
-use Prim.Native.Nat.{ℕ, _≤_}
 use Rattle.codec.proofs.blocks.field_fault.Statement.{statement}
 use Rattle.codec.proofs.blocks.field_fault.Tie as tie
-use Rattle.codec.proofs.blocks.field_fault.Reads as reads
-use Rattle.codec.proofs.blocks.field_fault.Lts as lts
-use Rattle.codec.proofs.cs.configuration_fault.Reads as cs-configuration-fault-reads
-use Rattle.codec.proofs.nan.capability_fault.Reads as nan-capability-fault-reads
-use Rattle.codec.proofs.nan.configuration_fault.Reads as nan-configuration-fault-reads
-use Rattle.codec.proofs.uwb.capability_fault.Reads as uwb-capability-fault-reads
-use Rattle.codec.proofs.uwb.configuration_fault.Reads as uwb-configuration-fault-reads
 
--- src/blocks.rt:32:18
 capability-fault-requires : tie.Need-capability-fault-requires
 capability-fault-requires c κs = rw (c .match .keys1, eq-eqb _ 1 (c .before .if1 .taken)) at (c .before .before .before .pre)
 
--- src/blocks.rt:33:18
 capability-fault-requires-2 : tie.Need-capability-fault-requires-2
 capability-fault-requires-2 c κs = rw (c .match .keys2, eq-eqb _ 1 (c .before .if1 .taken)) at (c .before .before .before .pre)
 
--- src/blocks.rt:31:9
 returns : tie.Need-returns
 returns c = rw (c .before .match .keys1, eq-eqb _ 1 (c .before .before .if1 .taken)) (c .capability-fault .ensures)
 
--- src/blocks.rt:31:9
 returns-2 : tie.Need-returns-2
 returns-2 c = rw (c .before .match .keys2, eq-eqb _ 1 (c .before .before .if1 .taken)) (c .capability-fault2 .ensures)
 
--- src/blocks.rt:31:9
 returns-3 : tie.Need-returns-3
 returns-3 c = let no = c .match .rest in rw (eq-eqb _ 1 (c .before .if1 .taken), capability-sound _ _ (no .0 .1) (no .1))
 
--- src/blocks.rt:38:14
 configuration-fault-requires : tie.Need-configuration-fault-requires
 configuration-fault-requires c κs = rw (c .match2 .keys1, ne-eqb _ 1 (c .before .if1 .left)) at (c .before .before .before .pre)
 
--- src/blocks.rt:39:14
 configuration-fault-requires-2 : tie.Need-configuration-fault-requires-2
 configuration-fault-requires-2 c κs = rw (c .match2 .keys2, ne-eqb _ 1 (c .before .if1 .left)) at (c .before .before .before .pre)
 
--- src/blocks.rt:40:14
 configuration-fault-requires-3 : tie.Need-configuration-fault-requires-3
 configuration-fault-requires-3 c κs = rw (c .match2 .keys3, ne-eqb _ 1 (c .before .if1 .left)) at (c .before .before .before .pre)
 
--- src/blocks.rt:26:1
 returns-4 : tie.Need-returns-4
 returns-4 c = rw (c .before .match2 .keys1, ne-eqb _ 1 (c .before .before .if1 .left)) (c .configuration-fault .ensures)
 
--- src/blocks.rt:26:1
 returns-5 : tie.Need-returns-5
 returns-5 c = rw (c .before .match2 .keys2, ne-eqb _ 1 (c .before .before .if1 .left)) (c .configuration-fault2 .ensures)
 
--- src/blocks.rt:26:1
 returns-6 : tie.Need-returns-6
 returns-6 c = rw (c .before .match2 .keys3, ne-eqb _ 1 (c .before .before .if1 .left)) (c .configuration-fault3 .ensures)
 
--- src/blocks.rt:26:1
 returns-7 : tie.Need-returns-7
 returns-7 c = let no = c .match2 .rest in rw (ne-eqb _ 1 (c .before .if1 .left), configuration-sound _ _ (no .0 .0 .1) (no .0 .1) (no .1))
 

@@ -4,23 +4,17 @@ use Rattle.codec.specs.Blocks.{capabilityBlock, configurationBlock}
 use Rattle.codec.specs.Layout.{least}
 use borrow.Author.Tests.{eq-eqb, ne-eqb}
 use lib.Dec.{eqb}
-use Prim.Native.Nat.{ℕ}
 use mathlib.Core.Bool.{Bool, true, false, cond}
 use mathlib.Core.Path.{_≡_, refl}
 use Rattle.codec.proofs.blocks.least_size.Statement.{statement}
 use Rattle.codec.proofs.blocks.least_size.Tie as tie
-use Rattle.codec.proofs.blocks.least_size.Reads as reads
-use Rattle.codec.proofs.blocks.least_size.Lts as lts
 
--- src/blocks.rt:13:1
 returns : tie.Need-returns
 returns c = rw (c .before .match .keys1, eq-eqb _ 1 (c .if1 .taken))
 
--- src/blocks.rt:13:1
 returns-2 : tie.Need-returns-2
 returns-2 c = rw (c .before .match .keys1, ne-eqb _ 1 (c .if1 .left))
 
--- src/blocks.rt:13:1
 returns-3 : tie.Need-returns-3
 returns-3 c = rw (c .match .keys2) (both (eqb (c .before .args .message) 1))
   where
@@ -28,15 +22,12 @@ returns-3 c = rw (c .match .keys2) (both (eqb (c .before .args .message) 1))
     both true = refl
     both false = refl
 
--- src/blocks.rt:13:1
 returns-4 : tie.Need-returns-4
 returns-4 c = rw (c .before .match .keys3, eq-eqb _ 1 (c .if2 .taken))
 
--- src/blocks.rt:13:1
 returns-5 : tie.Need-returns-5
 returns-5 c = rw (c .before .match .keys3, ne-eqb _ 1 (c .if2 .left))
 
--- src/blocks.rt:13:1
 returns-6 : tie.Need-returns-6
 returns-6 c = rw (c .match .keys4) (both (eqb (c .before .args .message) 1))
   where
@@ -44,7 +35,6 @@ returns-6 c = rw (c .match .keys4) (both (eqb (c .before .args .message) 1))
     both true = refl
     both false = refl
 
--- src/blocks.rt:13:1
 returns-7 : tie.Need-returns-7
 returns-7 c =
     let no = c .match .rest in

@@ -1,45 +1,31 @@
 use Rattle.codec.proofs.MessageCases.{blocks-stop, blocks-end}
 use Rattle.codec.proofs.Bits.{bit-none}
-use Rattle.codec.specs.Places.{Finds}
 use Rattle.codec.specs.Message.{endFault}
 use Rattle.codec.specs.Refusal.{numberIn}
 use Prim.Native.Nat.{ℕ}
-use mathlib.Core.Path.{_≡_, sym, ap, _∙_}
+use mathlib.Core.Path.{ap, _∙_}
 use borrow.Author.Needs.{needs}
 use Rattle.codec.proofs.checks.blocks_fault.Statement.{statement}
 use Rattle.codec.proofs.checks.blocks_fault.Tie as tie
-use Rattle.codec.proofs.checks.blocks_fault.Reads as reads
-use Rattle.codec.proofs.checks.blocks_fault.Lts as lts
-use Rattle.codec.proofs.checks.end_fault.Reads as end-fault-reads
-use Rattle.codec.proofs.octets.u16_at.Reads as u16-at-reads
-use Rattle.codec.proofs.octets.wide.Reads as wide-reads
-use Rattle.codec.proofs.walk.walk.Reads as walk-reads
 
--- src/checks.rt:59:45
 u16-at-requires : tie.Need-u16-at-requires
 u16-at-requires c κs = search needs
 
--- src/checks.rt:59:9
 walk-requires : tie.Need-walk-requires
 walk-requires c κs = search needs
 
--- src/checks.rt:61:9
 returns : tie.Need-returns
 returns c = blocks-stop _ _ _ _ (c .before .walk .ensures .1) (rw (bit-none, c .before .before .before .u16-at .ensures) at (c .before .walk .ensures .0)) (c .if1 .taken)
 
--- src/checks.rt:63:23
 element-copy-out-wide : tie.Need-element-copy-out-wide
 element-copy-out-wide c = search needs
 
--- src/checks.rt:63:18
 wide-requires : tie.Need-wide-requires
 wide-requires c κs = search needs
 
--- src/checks.rt:63:5
 end-fault-requires : tie.Need-end-fault-requires
 end-fault-requires c κs = search needs
 
--- src/checks.rt:55:1
 returns-2 : tie.Need-returns-2
 returns-2 c =
     blocks-end _ _ _ _ (c .before .before .before .before .walk .ensures .1) (rw (bit-none, c .before .before .before .before .before .before .u16-at .ensures) at (c .before .before .before .before .walk .ensures .0)) (c .before .before .before .if1 .left)

@@ -1,46 +1,33 @@
 use Rattle.codec.proofs.MessageCases.{judged-refused, judged-as, body-unread, configuration-short, configuration-sets, configuration-blocks}
 use Rattle.codec.proofs.Laws.{failed, passed}
 use borrow.Author.Tests.{eq-eqb, ne-eqb}
-use mathlib.Core.Path.{_≡_, sym, _∙_}
+use mathlib.Core.Path.{sym, _∙_}
 use native.Mathlib.Omega.{arith}
 use borrow.Author.Needs.{needs}
 use Rattle.codec.proofs.checks.configuration_fault.Statement.{statement}
 use Rattle.codec.proofs.checks.configuration_fault.Tie as tie
-use Rattle.codec.proofs.checks.configuration_fault.Reads as reads
-use Rattle.codec.proofs.checks.configuration_fault.Lts as lts
-use Rattle.codec.proofs.checks.blocks_fault.Reads as blocks-fault-reads
-use Rattle.codec.proofs.checks.readable.Reads as readable-reads
-use Rattle.codec.proofs.octets.u16_at.Reads as u16-at-reads
 
--- src/checks.rt:84:18
 shared-slice-read-readable : tie.Need-shared-slice-read-readable
 shared-slice-read-readable c = search needs
 
--- src/checks.rt:84:24
 shared-slice-read-readable-2 : tie.Need-shared-slice-read-readable-2
 shared-slice-read-readable-2 c = search needs
 
--- src/checks.rt:84:9
 readable-requires : tie.Need-readable-requires
 readable-requires c κs = search needs
 
--- src/checks.rt:85:9
 returns : tie.Need-returns
 returns c = judged-refused (body-unread _ (failed (c .before .readable .ensures) (c .if1 .taken))) (λ e. omega arith) (c .before .before .before .before .before .pre .3)
 
--- src/checks.rt:88:9
 returns-2 : tie.Need-returns-2
 returns-2 c = judged-refused (configuration-short _ (passed (c .before .before .readable .ensures) (c .before .if1 .left)) (c .before .before .before .before .before .before .pre .2) (c .if2 .taken)) (λ e. omega arith) (c .before .before .before .before .before .before .pre .3)
 
--- src/checks.rt:90:8
 u16-at-requires : tie.Need-u16-at-requires
 u16-at-requires c κs = search needs
 
--- src/checks.rt:90:24
 u16-at-requires-2 : tie.Need-u16-at-requires-2
 u16-at-requires-2 c κs = search needs
 
--- src/checks.rt:91:9
 returns-3 : tie.Need-returns-3
 returns-3 c =
     judged-refused
@@ -48,11 +35,9 @@ returns-3 c =
     (λ e. omega arith)
     (c .before .before .before .before .before .before .before .before .before .pre .3)
 
--- src/checks.rt:93:5
 blocks-fault-requires : tie.Need-blocks-fault-requires
 blocks-fault-requires c κs = search needs
 
--- src/checks.rt:80:1
 returns-4 : tie.Need-returns-4
 returns-4 c =
     judged-as (c .blocks-fault .ensures)

@@ -6,18 +6,12 @@ use Rattle.codec.specs.Message.{idOf, assigned, carriesBlocks}
 use Rattle.codec.specs.Layout.{member}
 use mathlib.Core.Logic.{inl, inr, ⊎-elim}
 use mathlib.Core.Bool.{true, false}
-use Prim.Native.Nat.{ℕ}
 use Rattle.codec.proofs.MessageCases.{judged-refused, judged-as, parse-long, parse-short, parse-reserved, parse-body}
-use mathlib.Core.Path.{_≡_, sym, _∙_}
+use mathlib.Core.Path.{_≡_, _∙_}
 use native.Mathlib.Omega.{arith}
 use borrow.Author.Needs.{needs}
 use Rattle.codec.proofs.checks.message_fault.Statement.{statement}
 use Rattle.codec.proofs.checks.message_fault.Tie as tie
-use Rattle.codec.proofs.checks.message_fault.Reads as reads
-use Rattle.codec.proofs.checks.message_fault.Lts as lts
-use Rattle.codec.proofs.checks.configuration_fault.Reads as configuration-fault-reads
-use Rattle.codec.proofs.checks.response_fault.Reads as response-fault-reads
-use Rattle.codec.proofs.checks.set_fault.Reads as set-fault-reads
 
 -- messages 0, 3, 6 and 7 carry a set alone
 alone : (c : tie.At-match-came) →
@@ -26,41 +20,32 @@ alone : (c : tie.At-match-came) →
 unfolding assigned member
 alone c = ⊎-elim (λ k. ⊎-elim (λ e. rw e (refl, refl)) (λ e. rw e (refl, refl)) (k .keys1)) (λ w. six-or-seven _ (w .1 .left) (w .2 .taken)) (c .match .came)
 
--- src/checks.rt:102:9
 returns : tie.Need-returns
 returns c = judged-refused (parse-long _ (c .if1 .taken)) (λ e. omega arith) (c .before .before .pre)
 
--- src/checks.rt:105:9
 returns-2 : tie.Need-returns-2
 returns-2 c = judged-refused (parse-short _ (c .if2 .taken)) (λ e. omega arith) (c .before .before .before .pre)
 
--- src/checks.rt:107:11
 shared-slice-read-match : tie.Need-shared-slice-read-match
 shared-slice-read-match c = search needs
 
--- src/checks.rt:109:14
 response-fault-requires : tie.Need-response-fault-requires
 response-fault-requires c κs = search needs
 
--- src/checks.rt:110:14
 configuration-fault-requires : tie.Need-configuration-fault-requires
 configuration-fault-requires c κs = search needs
 
--- src/checks.rt:108:26
 set-fault-requires : tie.Need-set-fault-requires
 set-fault-requires c κs = (c .before .before .if2 .left, alone c .0)
 
--- src/checks.rt:97:1
 returns-3 : tie.Need-returns-3
 unfolding assigned member
 returns-3 c = rw (c .before .before .match .keys2) (judged-as (c .response-fault .ensures) (parse-body _ (c .before .before .before .before .before .if1 .left) (c .before .before .before .before .if2 .left) (rw (c .before .before .match .keys2))))
 
--- src/checks.rt:97:1
 returns-4 : tie.Need-returns-4
 unfolding assigned member
 returns-4 c = rw (c .before .before .match .keys3) (judged-as (c .configuration-fault .ensures) (parse-body _ (c .before .before .before .before .before .if1 .left) (c .before .before .before .before .if2 .left) (rw (c .before .before .match .keys3))))
 
--- src/checks.rt:97:1
 returns-5 : tie.Need-returns-5
 returns-5 c =
     let no = c .before .match .rest in
@@ -69,7 +54,6 @@ returns-5 c =
     (λ e. omega arith)
     (c .before .before .before .before .before .before .pre)
 
--- src/checks.rt:97:1
 returns-6 : tie.Need-returns-6
 returns-6 c =
     judged-refused
@@ -77,7 +61,6 @@ returns-6 c =
     (λ e. omega arith)
     (c .before .before .before .before .before .before .before .pre)
 
--- src/checks.rt:97:1
 returns-7 : tie.Need-returns-7
 returns-7 c = judged-alone (alone (c .before) .0) (c .set-fault .ensures ∙ ap numberIn (parse-body _ (c .before .before .before .before .if1 .left) (c .before .before .before .if2 .left) (alone (c .before) .1))) (c .before .before .before .before .before .before .pre)
 

@@ -2,10 +2,7 @@ use Rattle.codec.specs.Message.{readable}
 use mathlib.Core.Path.{refl}
 use Rattle.codec.proofs.checks.readable.Statement.{statement}
 use Rattle.codec.proofs.checks.readable.Tie as tie
-use Rattle.codec.proofs.checks.readable.Reads as reads
-use Rattle.codec.proofs.checks.readable.Lts as lts
 
--- src/checks.rt:22:1
 returns : tie.Need-returns
 unfolding readable
 returns c = refl

@@ -4,36 +4,25 @@ use native.Mathlib.Omega.{arith}
 use borrow.Author.Needs.{needs}
 use Rattle.codec.proofs.checks.response_fault.Statement.{statement}
 use Rattle.codec.proofs.checks.response_fault.Tie as tie
-use Rattle.codec.proofs.checks.response_fault.Reads as reads
-use Rattle.codec.proofs.checks.response_fault.Lts as lts
-use Rattle.codec.proofs.checks.blocks_fault.Reads as blocks-fault-reads
-use Rattle.codec.proofs.checks.readable.Reads as readable-reads
 
--- src/checks.rt:70:18
 shared-slice-read-readable : tie.Need-shared-slice-read-readable
 shared-slice-read-readable c = search needs
 
--- src/checks.rt:70:24
 shared-slice-read-readable-2 : tie.Need-shared-slice-read-readable-2
 shared-slice-read-readable-2 c = search needs
 
--- src/checks.rt:70:9
 readable-requires : tie.Need-readable-requires
 readable-requires c κs = search needs
 
--- src/checks.rt:71:9
 returns : tie.Need-returns
 returns c = judged-refused (body-unread _ (failed (c .before .readable .ensures) (c .if1 .taken))) (λ e. omega arith) (c .before .before .before .before .before .pre .3)
 
--- src/checks.rt:74:9
 returns-2 : tie.Need-returns-2
 returns-2 c = judged-refused (response-short _ (passed (c .before .before .readable .ensures) (c .before .if1 .left)) (c .before .before .before .before .before .before .pre .2) (c .if2 .taken)) (λ e. omega arith) (c .before .before .before .before .before .before .pre .3)
 
--- src/checks.rt:76:5
 blocks-fault-requires : tie.Need-blocks-fault-requires
 blocks-fault-requires c κs = search needs
 
--- src/checks.rt:66:1
 returns-3 : tie.Need-returns-3
 returns-3 c = judged-as (c .blocks-fault .ensures) (response-blocks _ (passed (c .before .before .before .before .readable .ensures) (c .before .before .before .if1 .left)) (c .before .before .before .before .before .before .before .before .pre .2) (c .before .before .if2 .left))
 

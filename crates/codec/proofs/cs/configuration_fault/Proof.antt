@@ -2,23 +2,16 @@ use Rattle.codec.proofs.Laws.{failed, passed}
 use borrow.Author.Needs.{needs}
 use Rattle.codec.proofs.cs.configuration_fault.Statement.{statement}
 use Rattle.codec.proofs.cs.configuration_fault.Tie as tie
-use Rattle.codec.proofs.cs.configuration_fault.Reads as reads
-use Rattle.codec.proofs.cs.configuration_fault.Lts as lts
-use Rattle.codec.proofs.octets.inside.Reads as inside-reads
 
--- src/cs.rt:41:22
 shared-slice-read-inside : tie.Need-shared-slice-read-inside
 shared-slice-read-inside c = search needs
 
--- src/cs.rt:41:9
 inside-requires : tie.Need-inside-requires
 inside-requires c κs = search needs
 
--- src/cs.rt:42:9
 returns : tie.Need-returns
 returns c = rw (failed (c .before .inside .ensures) (c .if1 .taken))
 
--- src/cs.rt:37:1
 returns-2 : tie.Need-returns-2
 returns-2 c = rw (passed (c .before .inside .ensures) (c .if1 .left))
 

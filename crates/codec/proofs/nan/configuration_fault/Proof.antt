@@ -1,76 +1,55 @@
 use Rattle.codec.proofs.Laws.{failed, passed}
 use native.Mathlib.Omega.{arith}
 use borrow.Author.Tests.{le-leb, lt-leb}
-use lib.ListN.{length, getD}
-use Prim.Native.Nat.{_+_, _≤_, _<_}
 use borrow.Author.Needs.{needs}
 use Rattle.codec.proofs.nan.configuration_fault.Statement.{statement}
 use Rattle.codec.proofs.nan.configuration_fault.Tie as tie
-use Rattle.codec.proofs.nan.configuration_fault.Reads as reads
-use Rattle.codec.proofs.nan.configuration_fault.Lts as lts
-use Rattle.codec.proofs.octets.inside.Reads as inside-reads
 
--- src/nan.rt:57:23
 shared-slice-read-inside : tie.Need-shared-slice-read-inside
 shared-slice-read-inside c = search needs
 
--- src/nan.rt:57:9
 inside-requires : tie.Need-inside-requires
 inside-requires c κs = search needs
 
--- src/nan.rt:58:9
 returns : tie.Need-returns
 returns c = rw (failed (c .before .inside .ensures) (c .if1 .taken))
 
--- src/nan.rt:60:20
 shared-slice-read-role : tie.Need-shared-slice-read-role
 shared-slice-read-role c = search needs
 
--- src/nan.rt:60:20
 cast-role : tie.Need-cast-role
 cast-role c = omega (arith, c .shared-slice-known3 .given 2)
 
--- src/nan.rt:60:16
 add-role : tie.Need-add-role
 add-role c = omega (arith, c .shared-slice-known3 .given 2)
 
--- src/nan.rt:61:20
 add-periodic : tie.Need-add-periodic
 add-periodic c = omega (arith, c .shared-slice-known3 .given 2)
 
--- src/nan.rt:62:18
 add-if2 : tie.Need-add-if2
 add-if2 c = omega (arith, c .shared-slice-known3 .given 2)
 
--- src/nan.rt:63:9
 returns-2 : tie.Need-returns-2
 returns-2 c = rw (passed (c .before .before .before .inside .ensures) (c .before .before .if1 .left), lt-leb _ _ (c .if2 .taken))
 
--- src/nan.rt:65:22
 shared-slice-read-inside-2 : tie.Need-shared-slice-read-inside-2
 shared-slice-read-inside-2 c = search needs
 
--- src/nan.rt:65:9
 inside-requires-2 : tie.Need-inside-requires-2
 inside-requires-2 c κs = search needs
 
--- src/nan.rt:66:9
 returns-3 : tie.Need-returns-3
 returns-3 c = rw (passed (c .before .before .before .before .before .before .inside .ensures) (c .before .before .before .before .before .if1 .left), le-leb _ _ (c .before .before .before .if2 .left), failed (c .before .inside2 .ensures) (c .if3 .taken))
 
--- src/nan.rt:68:22
 shared-slice-read-inside-3 : tie.Need-shared-slice-read-inside-3
 shared-slice-read-inside-3 c = search needs
 
--- src/nan.rt:68:9
 inside-requires-3 : tie.Need-inside-requires-3
 inside-requires-3 c κs = search needs
 
--- src/nan.rt:69:9
 returns-4 : tie.Need-returns-4
 returns-4 c = rw (passed (c .before .before .before .before .before .before .before .before .before .inside .ensures) (c .before .before .before .before .before .before .before .before .if1 .left), le-leb _ _ (c .before .before .before .before .before .before .if2 .left), passed (c .before .before .before .before .inside2 .ensures) (c .before .before .before .if3 .left), failed (c .before .inside3 .ensures) (c .if4 .taken))
 
--- src/nan.rt:53:1
 returns-5 : tie.Need-returns-5
 returns-5 c = rw (passed (c .before .before .before .before .before .before .before .before .before .inside .ensures) (c .before .before .before .before .before .before .before .before .if1 .left), le-leb _ _ (c .before .before .before .before .before .before .if2 .left), passed (c .before .before .before .before .inside2 .ensures) (c .before .before .before .if3 .left), passed (c .before .inside3 .ensures) (c .if4 .left))
 

@@ -2,10 +2,7 @@ use Rattle.codec.specs.Layout.{inside}
 use mathlib.Core.Path.{refl}
 use Rattle.codec.proofs.octets.inside.Statement.{statement}
 use Rattle.codec.proofs.octets.inside.Tie as tie
-use Rattle.codec.proofs.octets.inside.Reads as reads
-use Rattle.codec.proofs.octets.inside.Lts as lts
 
--- src/octets.rt:9:1
 returns : tie.Need-returns
 unfolding inside
 returns c = refl

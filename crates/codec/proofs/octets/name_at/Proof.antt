@@ -4,37 +4,27 @@ use mathlib.Core.Path.{_∙_}
 use borrow.Author.Needs.{needs}
 use Rattle.codec.proofs.octets.name_at.Statement.{statement}
 use Rattle.codec.proofs.octets.name_at.Tie as tie
-use Rattle.codec.proofs.octets.name_at.Reads as reads
-use Rattle.codec.proofs.octets.name_at.Lts as lts
-use Rattle.bytes.proofs.copy.Reads as copy-reads
 
--- src/octets.rt:72:24
 add-copy : tie.Need-add-copy
 add-copy c = search needs
 
--- src/octets.rt:72:17
 sub-copy : tie.Need-sub-copy
 sub-copy c = search needs
 
--- src/octets.rt:72:17
 part-copy-start : tie.Need-part-copy-start
 part-copy-start c = search needs
 
--- src/octets.rt:72:17
 part-copy-end : tie.Need-part-copy-end
 part-copy-end c = search needs
 
--- src/octets.rt:72:33
 slice-aggregate-copy : tie.Need-slice-aggregate-copy
 slice-aggregate-copy c = search needs
 
--- src/octets.rt:72:5
 copy-requires : tie.Need-copy-requires
 copy-requires c κs = search needs
 
--- src/octets.rt:67:1
 returns : tie.Need-returns
-returns c = 
+returns c =
     let s = c .before .before .before .before .before in
     c .before .copy .ensures .1 ∙ copied (now (s .args .s)) (s .args .at) (s .args .n) 64 (s .pre .0)
 

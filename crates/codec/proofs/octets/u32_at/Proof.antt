@@ -4,28 +4,19 @@ use Prim.Native.Nat.{_+_}
 use borrow.Author.Needs.{needs}
 use Rattle.codec.proofs.octets.u32_at.Statement.{statement}
 use Rattle.codec.proofs.octets.u32_at.Tie as tie
-use Rattle.codec.proofs.octets.u32_at.Reads as reads
-use Rattle.codec.proofs.octets.u32_at.Lts as lts
-use Rattle.codec.proofs.octets.joined32.Reads as joined32-reads
-use Rattle.codec.proofs.octets.u16_at.Reads as u16-at-reads
 
--- src/octets.rt:33:14
 u16-at-requires : tie.Need-u16-at-requires
 u16-at-requires c κs = search needs
 
--- src/octets.rt:33:39
 add-u16-at : tie.Need-add-u16-at
 add-u16-at c = search needs
 
--- src/octets.rt:33:29
 u16-at-requires-2 : tie.Need-u16-at-requires-2
 u16-at-requires-2 c κs = search needs
 
--- src/octets.rt:33:5
 joined32-requires : tie.Need-joined32-requires
 joined32-requires c κs = search needs
 
--- src/octets.rt:29:1
 returns : tie.Need-returns
 returns c =
     let a = c .before .before .before .before .args in

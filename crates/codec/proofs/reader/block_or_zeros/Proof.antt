@@ -1,48 +1,36 @@
 use borrow.Author.Tests.{eq-eqb, ne-eqb}
-use lib.ListN.{length, getD}
-use mathlib.Core.Path.{_≡_, _∙_}
+use mathlib.Core.Path.{_∙_}
 use native.Mathlib.Nat.{add-sub-cancel-left}
 use native.Mathlib.Omega.{arith}
-use Prim.Native.Nat.{_+_, _≤_}
+use Prim.Native.Nat.{_+_}
 use borrow.Author.Needs.{needs}
 use Rattle.codec.proofs.reader.block_or_zeros.Statement.{statement}
 use Rattle.codec.proofs.reader.block_or_zeros.Tie as tie
-use Rattle.codec.proofs.reader.block_or_zeros.Reads as reads
-use Rattle.codec.proofs.reader.block_or_zeros.Lts as lts
 
--- src/reader.rt:29:9
 returns : tie.Need-returns
 returns c = c .before .pre .0 ∙ rw (eq-eqb _ 0 (c .if1 .taken))
 
--- src/reader.rt:32:21
 add-end : tie.Need-add-end
 add-end c = search needs
 
--- src/reader.rt:32:19
 shared-slice-read-end : tie.Need-shared-slice-read-end
 shared-slice-read-end c = omega (arith, c .before .before .pre .1 (c .before .if1 .left) .0)
 
--- src/reader.rt:32:19
 cast-end : tie.Need-cast-end
 cast-end c = omega (arith, c .shared-slice-known .given (c .before .before .args .at + 1))
 
--- src/reader.rt:32:15
 add-end-2 : tie.Need-add-end-2
 add-end-2 c = omega (arith, c .before .before .pre .1 (c .before .if1 .left) .1)
 
--- src/reader.rt:33:5
 sub-result : tie.Need-sub-result
 sub-result c = search needs
 
--- src/reader.rt:33:5
 part-result-start : tie.Need-part-result-start
 part-result-start c = search needs
 
--- src/reader.rt:33:5
 part-result-end : tie.Need-part-result-end
 part-result-end c = omega (arith, c .before .before .pre .1 (c .before .if1 .left) .1)
 
--- src/reader.rt:24:1
 returns-2 : tie.Need-returns-2
 returns-2 c = rw (ne-eqb _ 0 (c .before .before .if1 .left), add-sub-cancel-left (c .before .before .before .args .at) _)
 

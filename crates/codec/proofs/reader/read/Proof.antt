@@ -4,29 +4,20 @@ use Rattle.codec.specs.Records.{accepted}
 use Rattle.codec.specs.Octets.{Octets}
 use Rattle.codec.specs.Message.{parse}
 use native.Mathlib.Omega.{arith}
-use mathlib.Core.Path.{_≡_, sym, ap, _∙_}
+use mathlib.Core.Path.{sym, ap, _∙_}
 use borrow.Author.Needs.{needs}
 use Rattle.codec.proofs.reader.read.Statement.{statement}
 use Rattle.codec.proofs.reader.read.Tie as tie
-use Rattle.codec.proofs.reader.read.Reads as reads
-use Rattle.codec.proofs.reader.read.Lts as lts
-use Rattle.codec.proofs.checks.message_fault.Reads as message-fault-reads
-use Rattle.codec.proofs.reader.record_at.Reads as record-at-reads
-use Rattle.codec.proofs.records.refused.Reads as refused-reads
 
--- src/reader.rt:88:9
 message-fault-requires : tie.Need-message-fault-requires
 message-fault-requires c κs = search needs
 
--- src/reader.rt:90:9
 refused-requires : tie.Need-refused-requires
 refused-requires c κs = search needs
 
--- src/reader.rt:90:9
 returns : tie.Need-returns
 returns c = c .refused .ensures ∙ reads-refused _ _ (c .before .before .message-fault .ensures .number) (c .before .if1 .taken)
 
--- src/reader.rt:92:9
 record-at-requires : tie.Need-record-at-requires
 record-at-requires c κs =
     let m = c .before .before .before .before .before .args .message .now in
@@ -35,7 +26,6 @@ record-at-requires c κs =
     by-number (parse m) (sym (j .number) ∙ c .before .if1 .left) λ blocks e.
     (four m o blocks e, placed m o blocks e _ (λ k. j .places k blocks e) (j .size))
 
--- src/reader.rt:84:1
 returns-2 : tie.Need-returns-2
 returns-2 c =
     let m = c .before .before .before .before .before .before .args .message .now in

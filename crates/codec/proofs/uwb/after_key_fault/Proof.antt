@@ -4,57 +4,40 @@ use mathlib.Core.Path.{ap, _∙_}
 use borrow.Author.Needs.{needs}
 use Rattle.codec.proofs.uwb.after_key_fault.Statement.{statement}
 use Rattle.codec.proofs.uwb.after_key_fault.Tie as tie
-use Rattle.codec.proofs.uwb.after_key_fault.Reads as reads
-use Rattle.codec.proofs.uwb.after_key_fault.Lts as lts
-use Rattle.codec.proofs.octets.inside.Reads as inside-reads
-use Rattle.codec.proofs.octets.pair_at.Reads as pair-at-reads
-use Rattle.codec.proofs.uwb.letters.Reads as letters-reads
 
--- src/uwb.rt:120:16
 add-role : tie.Need-add-role
 add-role c = search needs
 
--- src/uwb.rt:121:16
 add-mode : tie.Need-add-mode
 add-mode c = search needs
 
--- src/uwb.rt:122:17
 pair-at-requires : tie.Need-pair-at-requires
 pair-at-requires c κs = search needs
 
--- src/uwb.rt:122:9
 letters-requires : tie.Need-letters-requires
 letters-requires c κs = search needs
 
--- src/uwb.rt:123:9
 returns : tie.Need-returns
 returns c = rw (failed (c .before .letters .ensures ∙ ap alphabetic (c .before .before .pair-at .ensures)) (c .if1 .taken))
 
--- src/uwb.rt:125:22
 shared-slice-read-inside : tie.Need-shared-slice-read-inside
 shared-slice-read-inside c = search needs
 
--- src/uwb.rt:125:9
 inside-requires : tie.Need-inside-requires
 inside-requires c κs = search needs
 
--- src/uwb.rt:126:9
 returns-2 : tie.Need-returns-2
 returns-2 c = rw (passed (c .before .before .before .before .letters .ensures ∙ ap alphabetic (c .before .before .before .before .before .pair-at .ensures)) (c .before .before .before .if1 .left), failed (c .before .inside .ensures) (c .if2 .taken))
 
--- src/uwb.rt:128:22
 shared-slice-read-inside-2 : tie.Need-shared-slice-read-inside-2
 shared-slice-read-inside-2 c = search needs
 
--- src/uwb.rt:128:9
 inside-requires-2 : tie.Need-inside-requires-2
 inside-requires-2 c κs = search needs
 
--- src/uwb.rt:129:9
 returns-3 : tie.Need-returns-3
 returns-3 c = rw (passed (c .before .before .before .before .before .before .before .letters .ensures ∙ ap alphabetic (c .before .before .before .before .before .before .before .before .pair-at .ensures)) (c .before .before .before .before .before .before .if1 .left), passed (c .before .before .before .before .inside .ensures) (c .before .before .before .if2 .left), failed (c .before .inside2 .ensures) (c .if3 .taken))
 
--- src/uwb.rt:116:1
 returns-4 : tie.Need-returns-4
 returns-4 c = rw (passed (c .before .before .before .before .before .before .before .letters .ensures ∙ ap alphabetic (c .before .before .before .before .before .before .before .before .pair-at .ensures)) (c .before .before .before .before .before .before .if1 .left), passed (c .before .before .before .before .inside .ensures) (c .before .before .before .if2 .left), passed (c .before .inside2 .ensures) (c .if3 .left))
 

@@ -2,10 +2,7 @@ use Rattle.codec.specs.Layout.{member}
 use mathlib.Core.Bool.{or-assoc, or-false}
 use Rattle.codec.proofs.uwb.allowed_key_length.Statement.{statement}
 use Rattle.codec.proofs.uwb.allowed_key_length.Tie as tie
-use Rattle.codec.proofs.uwb.allowed_key_length.Reads as reads
-use Rattle.codec.proofs.uwb.allowed_key_length.Lts as lts
 
--- src/uwb.rt:74:1
 returns : tie.Need-returns
 unfolding member
 returns c = simp (or-assoc, or-false)

@@ -1,41 +1,28 @@
 use borrow.Author.Needs.{needs}
 use Rattle.codec.proofs.uwb.capability.Statement.{statement}
 use Rattle.codec.proofs.uwb.capability.Tie as tie
-use Rattle.codec.proofs.uwb.capability.Reads as reads
-use Rattle.codec.proofs.uwb.capability.Lts as lts
-use Rattle.codec.proofs.octets.pair_at.Reads as pair-at-reads
-use Rattle.codec.proofs.octets.u16_at.Reads as u16-at-reads
-use Rattle.codec.proofs.octets.u32_at.Reads as u32-at-reads
 
--- src/uwb.rt:103:9
 pair-at-requires : tie.Need-pair-at-requires
 pair-at-requires c κs = search needs
 
--- src/uwb.rt:106:28
 u32-at-requires : tie.Need-u32-at-requires
 u32-at-requires c κs = search needs
 
--- src/uwb.rt:107:43
 u32-at-requires-2 : tie.Need-u32-at-requires-2
 u32-at-requires-2 c κs = search needs
 
--- src/uwb.rt:108:31
 u32-at-requires-3 : tie.Need-u32-at-requires-3
 u32-at-requires-3 c κs = search needs
 
--- src/uwb.rt:109:28
 u16-at-requires : tie.Need-u16-at-requires
 u16-at-requires c κs = search needs
 
--- src/uwb.rt:110:24
 shared-slice-read-t11 : tie.Need-shared-slice-read-t11
 shared-slice-read-t11 c = search needs
 
--- src/uwb.rt:111:16
 shared-slice-read-t13 : tie.Need-shared-slice-read-t13
 shared-slice-read-t13 c = search needs
 
--- src/uwb.rt:99:1
 returns : tie.Need-returns
 returns c = rw (c .before .before .before .before .before .before .pair-at .ensures, c .before .before .before .before .before .u32-at .ensures, c .before .before .before .before .u32-at2 .ensures, c .before .before .before .u32-at3 .ensures, c .before .before .u16-at .ensures)
 

@@ -9,78 +9,55 @@ use Prim.Native.Nat.{_+_, _≤_, _<_}
 use borrow.Author.Needs.{needs}
 use Rattle.codec.proofs.uwb.configuration_fault.Statement.{statement}
 use Rattle.codec.proofs.uwb.configuration_fault.Tie as tie
-use Rattle.codec.proofs.uwb.configuration_fault.Reads as reads
-use Rattle.codec.proofs.uwb.configuration_fault.Lts as lts
-use Rattle.codec.proofs.octets.inside.Reads as inside-reads
-use Rattle.codec.proofs.octets.u16_at.Reads as u16-at-reads
-use Rattle.codec.proofs.uwb.after_key_fault.Reads as after-key-fault-reads
-use Rattle.codec.proofs.uwb.allowed_interval.Reads as allowed-interval-reads
-use Rattle.codec.proofs.uwb.allowed_key_length.Reads as allowed-key-length-reads
 
--- src/uwb.rt:138:26
 u16-at-requires : tie.Need-u16-at-requires
 u16-at-requires c κs = search needs
 
--- src/uwb.rt:138:9
 allowed-interval-requires : tie.Need-allowed-interval-requires
 allowed-interval-requires c κs = search needs
 
--- src/uwb.rt:139:9
 returns : tie.Need-returns
 returns c = rw (failed (c .before .allowed-interval .ensures ∙ ap (test interval) (c .before .before .u16-at .ensures)) (c .if1 .taken))
 
--- src/uwb.rt:141:22
 shared-slice-read-inside : tie.Need-shared-slice-read-inside
 shared-slice-read-inside c = search needs
 
--- src/uwb.rt:141:9
 inside-requires : tie.Need-inside-requires
 inside-requires c κs = search needs
 
--- src/uwb.rt:142:9
 returns-2 : tie.Need-returns-2
 returns-2 c = rw (passed (c .before .before .before .before .allowed-interval .ensures ∙ ap (test interval) (c .before .before .before .before .before .u16-at .ensures)) (c .before .before .before .if1 .left), failed (c .before .inside .ensures) (c .if2 .taken))
 
--- src/uwb.rt:144:28
 shared-slice-read-allowed-key-length : tie.Need-shared-slice-read-allowed-key-length
 shared-slice-read-allowed-key-length c = search needs
 
--- src/uwb.rt:144:9
 allowed-key-length-requires : tie.Need-allowed-key-length-requires
 allowed-key-length-requires c κs = search needs
 
--- src/uwb.rt:145:9
 returns-3 : tie.Need-returns-3
 returns-3 c = rw (passed (c .before .before .before .before .before .before .before .allowed-interval .ensures ∙ ap (test interval) (c .before .before .before .before .before .before .before .before .u16-at .ensures)) (c .before .before .before .before .before .before .if1 .left), passed (c .before .before .before .before .inside .ensures) (c .before .before .before .if2 .left), failed (c .before .allowed-key-length .ensures) (c .if3 .taken))
 
--- src/uwb.rt:147:24
 shared-slice-read-country : tie.Need-shared-slice-read-country
 shared-slice-read-country c = search needs
 
--- src/uwb.rt:147:24
 cast-country : tie.Need-cast-country
 cast-country c = omega (arith, c .shared-slice-known4 .given 14)
 
--- src/uwb.rt:147:19
 add-country : tie.Need-add-country
 add-country c = omega (arith, c .shared-slice-known4 .given 14)
 
--- src/uwb.rt:148:18
 add-if4 : tie.Need-add-if4
 add-if4 c = omega (arith, c .shared-slice-known4 .given 14)
 
--- src/uwb.rt:149:9
 returns-4 : tie.Need-returns-4
 returns-4 c =
     let b = c .before .before .before .before .before .before .before .before .before .before .before .before .args .b .now in
     let short : length b < 15 + getD b 14 0 + 2 + 1 + 1 = omega arith in
     rw (passed (c .before .before .before .before .before .before .before .before .before .allowed-interval .ensures ∙ ap (test interval) (c .before .before .before .before .before .before .before .before .before .before .u16-at .ensures)) (c .before .before .before .before .before .before .before .before .if1 .left), passed (c .before .before .before .before .before .before .inside .ensures) (c .before .before .before .before .before .if2 .left), passed (c .before .before .before .allowed-key-length .ensures) (c .before .before .if3 .left), lt-leb _ _ short)
 
--- src/uwb.rt:151:5
 after-key-fault-requires : tie.Need-after-key-fault-requires
 after-key-fault-requires c κs = search needs
 
--- src/uwb.rt:134:1
 returns-5 : tie.Need-returns-5
 returns-5 c =
     let b = c .before .before .before .before .before .before .before .before .before .before .before .before .before .args .b .now in

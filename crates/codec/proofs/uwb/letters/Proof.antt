@@ -3,31 +3,22 @@ use Rattle.codec.specs.Layout.{alphabetic}
 use lib.ListN.{length}
 use mathlib.Core.Bool.{and-true}
 use mathlib.Core.Path.{_≡_}
-use Prim.Native.Nat.{ℕ}
 use borrow.Author.Needs.{needs}
 use Rattle.codec.proofs.uwb.letters.Statement.{statement}
 use Rattle.codec.proofs.uwb.letters.Tie as tie
-use Rattle.codec.proofs.uwb.letters.Reads as reads
-use Rattle.codec.proofs.uwb.letters.Lts as lts
-use Rattle.codec.proofs.octets.inside.Reads as inside-reads
 
--- src/uwb.rt:83:20
 array-read-inside : tie.Need-array-read-inside
 array-read-inside c = search needs
 
--- src/uwb.rt:83:5
 inside-requires : tie.Need-inside-requires
 inside-requires c κs = search needs
 
--- src/uwb.rt:83:46
 array-read-inside-2 : tie.Need-array-read-inside-2
 array-read-inside-2 c = search needs
 
--- src/uwb.rt:83:31
 inside-requires-2 : tie.Need-inside-requires-2
 inside-requires-2 c κs = search needs
 
--- src/uwb.rt:80:1
 returns : tie.Need-returns
 unfolding alphabetic
 returns c = let a = c .before .before .args in

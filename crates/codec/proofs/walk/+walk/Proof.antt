@@ -1,19 +1,14 @@
 use Rattle.codec.proofs.Outcomes.{by-number}
-use Rattle.codec.specs.Refusal.{numberIn}
 use Rattle.codec.proofs.WalkCases.{id-under}
 use Rattle.codec.proofs.WalkCases.{Sound, sound-if, find-none, find-stop, find-next}
-use Rattle.codec.specs.Places.{Finds}
 use Rattle.codec.specs.Message.{also, blockFault}
 use Rattle.codec.specs.Technology.{bit}
-use Rattle.codec.specs.Refusal.{accept}
 use borrow.Author.Needs.{needs}
-use lib.ListN.{length, getD, length-set}
-use mathlib.Core.Bool.{Bool}
-use mathlib.Core.List.{List}
+use lib.ListN.{getD, length-set}
 use mathlib.Core.Path.{_≡_, sym, _∙_, fun-ext}
 use native.Mathlib.Nat.{pos-of-ne-zero}
 use native.Mathlib.Omega.{arith}
-use Prim.Native.Nat.{_+_, _≤_}
+use Prim.Native.Nat.{_+_}
 use Prim.Native.Nat.{ℕ, _<_}
 use borrow.Fn.Kinds.{In}
 use borrow.Fn.PlainCycle.{Measures, is, falls, and}

@@ -5,19 +5,13 @@ use Rattle.codec.specs.Message.{setOf}
 use Rattle.codec.specs.Technology.{bit}
 use native.Mathlib.Nat.{add-sub-cancel-left}
 use native.Mathlib.Omega.{arith}
-use lib.ListN.{length, getD}
-use mathlib.Core.Bool.{Bool, not, _&&_}
-use mathlib.Core.Path.{_≡_, ap, sym, _∙_}
-use Prim.Native.Nat.{ℕ, _+_, _≤_, _<_}
+use lib.ListN.{getD}
+use mathlib.Core.Bool.{not, _&&_}
+use mathlib.Core.Path.{_≡_, _∙_}
+use Prim.Native.Nat.{_+_}
 use borrow.Author.Needs.{needs}
 use Rattle.codec.proofs.walk.block_fault.Statement.{statement}
 use Rattle.codec.proofs.walk.block_fault.Tie as tie
-use Rattle.codec.proofs.walk.block_fault.Reads as reads
-use Rattle.codec.proofs.walk.block_fault.Lts as lts
-use Rattle.codec.proofs.blocks.field_fault.Reads as field-fault-reads
-use Rattle.codec.proofs.blocks.least_size.Reads as least-size-reads
-use Rattle.codec.proofs.octets.u16_at.Reads as u16-at-reads
-use Rattle.codec.proofs.walk.has.Reads as has-reads
 
 -- whether the block may come, as the code tests it
 may-come : (c : tie.After-has2) →
@@ -30,95 +24,72 @@ comes : (c : tie.Else2) →
     (bit (setOf (s .args .m .now)) (getD (s .args .m .now) (s .args .at) 0) && not (bit (s .args .met) (getD (s .args .m .now) (s .args .at) 0))) ≡ true
 comes c = passed (may-come (c .before)) (c .if2 .left)
 
--- src/walk.rt:39:8
 sub-if1 : tie.Need-sub-if1
 sub-if1 c = search needs
 
--- src/walk.rt:40:9
 returns : tie.Need-returns
 returns c = block-short _ _ _ (omega arith)
 
--- src/walk.rt:42:14
 shared-slice-read-id : tie.Need-shared-slice-read-id
 shared-slice-read-id c = search needs
 
--- src/walk.rt:43:14
 u16-at-requires : tie.Need-u16-at-requires
 u16-at-requires c κs = search needs
 
--- src/walk.rt:43:10
 has-requires : tie.Need-has-requires
 has-requires c κs = search needs
 
--- src/walk.rt:43:35
 has-requires-2 : tie.Need-has-requires-2
 has-requires-2 c κs = search needs
 
--- src/walk.rt:44:9
 returns-2 : tie.Need-returns-2
 returns-2 c = block-wrong _ _ _ (omega arith) (failed (may-come (c .before)) (c .if2 .taken))
 
--- src/walk.rt:46:10
 add-if3 : tie.Need-add-if3
 add-if3 c = search needs
 
--- src/walk.rt:46:8
 shared-slice-read-if3 : tie.Need-shared-slice-read-if3
 shared-slice-read-if3 c = search needs
 
--- src/walk.rt:46:31
 shared-slice-read-least-size : tie.Need-shared-slice-read-least-size
 shared-slice-read-least-size c = search needs
 
--- src/walk.rt:46:20
 least-size-requires : tie.Need-least-size-requires
 least-size-requires c κs = search needs
 
--- src/walk.rt:47:9
 returns-3 : tie.Need-returns-3
 returns-3 c = block-small _ _ _ (omega arith) (comes (c .before .before .before .before)) (omega arith)
 
--- src/walk.rt:49:22
 add-end : tie.Need-add-end
 add-end c = search needs
 
--- src/walk.rt:49:20
 shared-slice-read-end : tie.Need-shared-slice-read-end
 shared-slice-read-end c = search needs
 
--- src/walk.rt:49:20
 cast-end : tie.Need-cast-end
 cast-end c = omega (arith, c .shared-slice-known5 .given (c .before .before .before .before .before .before .before .before .before .before .before .before .args .at + 1))
 
--- src/walk.rt:49:15
 add-end-2 : tie.Need-add-end-2
 add-end-2 c = omega (arith, c .shared-slice-known5 .given (c .before .before .before .before .before .before .before .before .before .before .before .before .args .at + 1))
 
--- src/walk.rt:51:9
 returns-4 : tie.Need-returns-4
 returns-4 c = block-cut _ _ _ (omega arith) (comes (c .before .before .before .before .before .before)) (omega arith) (c .if4 .taken)
 
--- src/walk.rt:53:17
 shared-slice-read-field-fault : tie.Need-shared-slice-read-field-fault
 shared-slice-read-field-fault c = search needs
 
--- src/walk.rt:53:27
 sub-field-fault : tie.Need-sub-field-fault
 sub-field-fault c = search needs
 
--- src/walk.rt:53:27
 part-field-fault-start : tie.Need-part-field-fault-start
 part-field-fault-start c = search needs
 
--- src/walk.rt:53:27
 part-field-fault-end : tie.Need-part-field-fault-end
 part-field-fault-end c = search needs
 
--- src/walk.rt:53:5
 field-fault-requires : tie.Need-field-fault-requires
 field-fault-requires c κs = search needs
 
--- src/walk.rt:35:1
 returns-5 : tie.Need-returns-5
 returns-5 c =
     c .field-fault .ensures ∙ rw (add-sub-cancel-left (c .before .before .before .before .before .before .before .before .before .before .before .before .before .before .before .before .args .at) _)

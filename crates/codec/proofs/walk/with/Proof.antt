@@ -2,14 +2,10 @@ use Rattle.codec.proofs.Bits.{bit-with}
 use borrow.Author.Needs.{needs}
 use Rattle.codec.proofs.walk.with.Statement.{statement}
 use Rattle.codec.proofs.walk.with.Tie as tie
-use Rattle.codec.proofs.walk.with.Reads as reads
-use Rattle.codec.proofs.walk.with.Lts as lts
 
--- src/walk.rt:31:12
 shl-result : tie.Need-shl-result
 shl-result c = search needs
 
--- src/walk.rt:27:1
 returns : tie.Need-returns
 returns c = bit-with (c .args .set) (c .args .id) (c .pre)
 
