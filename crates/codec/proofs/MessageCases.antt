@@ -12,7 +12,7 @@ use borrow.Author.Tests.{le-leb, lt-leb, ne-eqb}
 use Rattle.codec.specs.Refusal.{Checked, refuse, accept, andThen, numberIn}
 use Rattle.codec.specs.Octets.{ofLE}
 use Rattle.codec.specs.Layout.{member}
-use Rattle.codec.specs.Message.{versionOf, idOf, assigned, readable, setOf, start, carriesBlocks, blockCount, nothing, Walked, walk, endFault, blocksFrom, body, parse}
+use Rattle.codec.specs.Message.{messageLimit, versionOf, idOf, assigned, readable, setOf, start, carriesBlocks, blockCount, nothing, Walked, walk, endFault, blocksFrom, body, parse}
 use Rattle.codec.specs.Places.{noted, Finds, Judged}
 use Rattle.codec.proofs.Outcomes.{no-zero, or-false}
 
@@ -120,19 +120,19 @@ module _ (m : List ℕ) where
 
   -- ---- the whole message
 
-  pub parse-long : 256 < length m → 1 ≡ numberIn (parse m)
+  pub parse-long : messageLimit < length m → 1 ≡ numberIn (parse m)
   unfolding parse
   parse-long l = rw (lt-leb _ _ l)
 
   pub parse-short : length m < 2 → 2 ≡ numberIn (parse m)
   unfolding parse
-  parse-short l = rw (le-leb (length m) 256 (omega arith), lt-leb _ _ l)
+  parse-short l = rw (le-leb (length m) messageLimit (omega arith), lt-leb _ _ l)
 
-  module _ (u : length m ≤ 256) (l : 2 ≤ length m) where
+  module _ (u : length m ≤ messageLimit) (l : 2 ≤ length m) where
     pub parse-reserved : assigned (idOf m) ≡ false → 3 ≡ numberIn (parse m)
     unfolding parse
-    parse-reserved e = rw (le-leb (length m) 256 u, le-leb 2 (length m) l, e)
+    parse-reserved e = rw (le-leb (length m) messageLimit u, le-leb 2 (length m) l, e)
 
     pub parse-body : assigned (idOf m) ≡ true → body m ≡ parse m
     unfolding parse
-    parse-body e = rw (le-leb (length m) 256 u, le-leb 2 (length m) l, e)
+    parse-body e = rw (le-leb (length m) messageLimit u, le-leb 2 (length m) l, e)

@@ -67,11 +67,14 @@ blockAt m at = part at (getD m (at + 1) 0) m
 -- A block with ID 4 to 15 has the empty layout, so that it is passed over by its size.
 unfoldable pub blockFault : List ℕ → (ℕ → Bool) → ℕ → Checked (Unit {0})
 blockFault m came at =
+    let id = getD m at 0 in
+    let size = getD m (at + 1) 0 in
+    let layout = layoutsOf (idOf m) id in
     demand (leb (at + 2) (length m)) endsEarly
-    (demand (bit (setOf m) (getD m at 0) && not (came (getD m at 0))) wrongBlock
-    (demand (leb (least (layoutsOf (idOf m) (getD m at 0)) 2) (getD m (at + 1) 0)) blockTooSmall
-    (demand (leb (at + getD m (at + 1) 0) (length m)) endsEarly
-    (fault (layoutsOf (idOf m) (getD m at 0)) 2 (blockAt m at)))))
+    (demand (bit (setOf m) id && not (came id)) wrongBlock
+    (demand (leb (least layout 2) size) blockTooSmall
+    (demand (leb (at + size) (length m)) endsEarly
+    (fault layout 2 (blockAt m at)))))
 
 -- the blocks as they lie, and the place after the last
 pub record Walked : Type 0 where

@@ -14,7 +14,7 @@ ghost use Prim.Native.Nat.{_≤_};
 ghost use lib.Count.{ones};
 ghost use lib.ListN.{length};
 ghost use Rattle.codec.specs.Refusal.{numberIn};
-ghost use Rattle.codec.specs.Message.{idOf, setOf, carriesBlocks, readable, endFault, blocksFrom, body, parse, start};
+ghost use Rattle.codec.specs.Message.{messageLimit, idOf, setOf, carriesBlocks, readable, endFault, blocksFrom, body, parse, start};
 ghost use Rattle.codec.specs.Places.{Judged};
 
 // A message has at most so many octets.
@@ -53,7 +53,7 @@ fn set_fault(m: &[u8]) -> u8
 
 // The first fault from the blocks on; for none it is 0, and `found` has the places of the blocks.
 fn blocks_fault(m: &[u8], at: usize, found: &mut [u16; 5]) -> u8
-    requires { ⌜ (4 ≤ length (now m)) × (length (now m) ≤ 256) × (at ≤ length (now m)) × (length (now found) ≡ 5) ⌝ }
+    requires { ⌜ (4 ≤ length (now m)) × (length (now m) ≤ messageLimit) × (at ≤ length (now m)) × (length (now found) ≡ 5) ⌝ }
     ensures { λ f. ⌜ Judged true (blocksFrom (now (m .entry)) (ones (setOf (now (m .entry)))) at) at (now (found .entry)) f (now (found .exit)) ⌝ }
 {
     let fault = walk(m, at, u16::count_ones(u16_at(m, 2)), 0, found);
@@ -65,7 +65,7 @@ fn blocks_fault(m: &[u8], at: usize, found: &mut [u16; 5]) -> u8
 
 // The first fault of a Capability Response.
 fn response_fault(m: &[u8], found: &mut [u16; 5]) -> u8
-    requires { ⌜ (2 ≤ length (now m)) × (length (now m) ≤ 256) × (idOf (now m) ≡ 1) × (length (now found) ≡ 5) ⌝ }
+    requires { ⌜ (2 ≤ length (now m)) × (length (now m) ≤ messageLimit) × (idOf (now m) ≡ 1) × (length (now found) ≡ 5) ⌝ }
     ensures { λ f. ⌜ Judged true (body (now (m .entry))) 4 (now (found .entry)) f (now (found .exit)) ⌝ }
 {
     if !readable(m[0], m[1]) {
@@ -79,7 +79,7 @@ fn response_fault(m: &[u8], found: &mut [u16; 5]) -> u8
 
 // The first fault of a Configuration.
 fn configuration_fault(m: &[u8], found: &mut [u16; 5]) -> u8
-    requires { ⌜ (2 ≤ length (now m)) × (length (now m) ≤ 256) × (idOf (now m) ≡ 2) × (length (now found) ≡ 5) ⌝ }
+    requires { ⌜ (2 ≤ length (now m)) × (length (now m) ≤ messageLimit) × (idOf (now m) ≡ 2) × (length (now found) ≡ 5) ⌝ }
     ensures { λ f. ⌜ Judged true (body (now (m .entry))) 6 (now (found .entry)) f (now (found .exit)) ⌝ }
 {
     if !readable(m[0], m[1]) {

@@ -10,7 +10,7 @@ ghost use Prim.Native.Nat.{ℕ, _+_, _≤_, _<_};
 ghost use lib.ListN.{length};
 ghost use Rattle.codec.specs.Refusal.{numberIn};
 ghost use Rattle.codec.specs.Technology.{bit};
-ghost use Rattle.codec.specs.Message.{also, blockFault, walk};
+ghost use Rattle.codec.specs.Message.{messageLimit, also, blockFault, walk};
 ghost use Rattle.codec.specs.Places.{note, Finds};
 
 // Whether a set has the bit of an ID.
@@ -67,7 +67,7 @@ fn note(id: u8, at: u16, found: &mut [u16; 5])
 // The first fault of the blocks that are left, from a place on. For none it is 0, and `found` has the places of the known
 // technologies' blocks and the place after the last block.
 pub(crate) fn walk(m: &[u8], at: usize, left: u32, met: u16, found: &mut [u16; 5]) -> u8
-    requires { ⌜ (4 ≤ length (now m)) × (length (now m) ≤ 256) × (at ≤ length (now m)) × (length (now found) ≡ 5) ⌝ }
+    requires { ⌜ (4 ≤ length (now m)) × (length (now m) ≤ messageLimit) × (at ≤ length (now m)) × (length (now found) ≡ 5) ⌝ }
     ensures { λ f. ⌜ Finds (walk (now (m .entry)) left (bit met) at) at (now (found .entry)) f (now (found .exit)) × (length (now (found .exit)) ≡ 5) ⌝ }
 {
     if left == 0 {
