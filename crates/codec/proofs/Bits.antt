@@ -11,7 +11,7 @@ use lib.Pow.{pow-mono, pow-lt, shr-shr}
 use lib.Bits.{bitOr, or-shr, or-step}
 use Rattle.codec.proofs.Outcomes.{by-bool}
 use Rattle.codec.specs.Technology.{bit}
-use Rattle.codec.specs.Message.{nothing, also}
+use Rattle.codec.specs.Message.{noId, also}
 
 -- a number of k bits has none from k on
 pub bit-above : (k s : ℕ) → s < 2 ^ k → (j : ℕ) → k ≤ j → bit s j ≡ false
@@ -20,7 +20,7 @@ bit-above k s h j b = rw (div-eq-of-lt (lt-of-lt-of-le h (pow-mono b)))
 pub bit-under : (k s : ℕ) → s < 2 ^ k → (j : ℕ) → bit s j ≡ true → j < k
 bit-under k s h j e = by-bool (leb k j) (λ b. let z : _≡_ {A = ℕ} 0 1 = cc (bit-above k s h j (leb-true k j b)) in absurd (omega arith)) (λ b. leb-false k j b)
 
-pub bit-none : bit 0 ≡ nothing
+pub bit-none : bit 0 ≡ noId
 bit-none = fun-ext (λ j. rw (zero-div (2 ^ j)))
 
 or-low : (a b : ℕ) → bitOr a b % 2 ≡ max (a % 2) (b % 2)

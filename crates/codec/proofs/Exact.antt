@@ -14,7 +14,7 @@ use Rattle.codec.specs.Refusal.{Checked, refuse, accept, andThen, leftOv
 use Rattle.codec.specs.Octets.{Octets, part, ofLE, toLE}
 use Rattle.codec.specs.Layout.{least}
 use Rattle.codec.specs.Technology.{bit}
-use Rattle.codec.specs.Message.{messageLimit, versionOf, idOf, assigned, readable, setOf, start, setsAgree, blockCount, layoutsOf, blockAt, also, nothing, blockFault, Walked, before, walk, endFault, blocksFrom, body, parse, recordOf, reading}
+use Rattle.codec.specs.Message.{messageLimit, versionOf, idOf, assigned, readable, setOf, blocksAt, setsAgree, blockCount, layoutsOf, blockAt, also, noId, blockFault, Walked, prepend, walk, endFault, blocksFrom, body, parse, recordOf, reading}
 use Rattle.codec.specs.Records.{accepted, answer}
 use Rattle.codec.specs.WellFormed.{Whole, Each, Once, sets, WellFormed}
 use Rattle.codec.specs.declared.records.Record.{Record}
@@ -71,7 +71,7 @@ module _ (m : List ℕ) where
       chained (walk m n (also (getD m at 0) came) (at + getD m (at + 1) 0)) _ w e₁ λ w₁ e₂ e₃.
       let s = sound m came at a in
       let r = walked n (also (getD m at 0) came) (at + getD m (at + 1) 0) w₁ (s .whole) e₂ in
-      let q : before (blockAt m at) w₁ ≡ w = cc in
+      let q : prepend (blockAt m at) w₁ ≡ w = cc in
       let f = fresh-apart (getD m at 0) came (w₁ .blocks) (r .fresh) in
       let lie : drop at m ≡ (blockAt m at ++ flatten (w₁ .blocks)) ++ drop (w₁ .end) m =
       sym (take-append-drop (getD m (at + 1) 0) (drop at m)) ∙ ap (λ (l : List ℕ). blockAt m at ++ l) (drop-drop (getD m (at + 1) 0) at m ∙ r .lie)
@@ -91,7 +91,7 @@ module _ (m : List ℕ) where
   then-part : (at n : ℕ) → drop at m ≡ part at n m ++ drop (at + n) m
   then-part at n = sym (take-append-drop n (drop at m)) ∙ ap (λ (l : List ℕ). part at n m ++ l) (drop-drop n at m)
 
-  sets-lie : Octets m → start (idOf m) ≤ length m → setsAgree m ≡ true → drop 2 m ≡ sets (idOf m) (setOf m) ++ drop (start (idOf m)) m
+  sets-lie : Octets m → blocksAt (idOf m) ≤ length m → setsAgree m ≡ true → drop 2 m ≡ sets (idOf m) (setOf m) ++ drop (blocksAt (idOf m)) m
   sets-lie o h a =
       by-bool (eqb (idOf m) 2)
       (λ y.
@@ -133,14 +133,14 @@ head-two (a ∷ (b ∷ m)) h = refl
 forth : (m : List ℕ) → Octets m → (blocks : List (List ℕ)) → parse m ≡ accept blocks → WellFormed m (recordOf (idOf m) (setOf m) blocks)
 forth m o blocks e =
     let p = parsed m blocks e in
-    let w = walked m (blockCount (idOf m) (setOf m)) nothing (start (idOf m)) (record { blocks = blocks; end = p .end }) (p .sets) (p .walked) in
+    let w = walked m (blockCount (idOf m) (setOf m)) noId (blocksAt (idOf m)) (record { blocks = blocks; end = p .end }) (p .sets) (p .walked) in
     record {
       version = versionOf m;
       id = idOf m;
       set = setOf m;
       blocks = blocks;
       rest = drop (p .end) m;
-      lies = head-two m (p .head) ∙ ap (λ (l : List ℕ). versionOf m ∷ (idOf m ∷ l)) (sets-lie m o (p .sets) (p .agree) ∙ ap (λ (l : List ℕ). sets (idOf m) (setOf m) ++ l) (w .lie));
+      octets = head-two m (p .head) ∙ ap (λ (l : List ℕ). versionOf m ∷ (idOf m ∷ l)) (sets-lie m o (p .sets) (p .agree) ∙ ap (λ (l : List ℕ). sets (idOf m) (setOf m) ++ l) (w .lie));
       limit = p .limit;
       assigned = p .assigned;
       readable = readable-is (versionOf m) (idOf m) (p .readable);
@@ -197,9 +197,9 @@ module _ (m : List ℕ) where
       let ih = walks blocks (also (getD b 0 0) came) (at + length b) rest (room at (length b) m b r u e₁ refl) (after at (length b) m b r e₁ refl) (w .1) (fresh-also (getD b 0 0) came blocks (f .1) (o .0)) (o .1) in
       rw (passes came at b r u e₁ (w .0) (f .0), first came at b r u e₁ (w .0), size came at b r u e₁ (w .0), here at (length b) m b r e₁ refl, ih, length-append b (flatten blocks), add-assoc at (length b) (length (flatten blocks)))
 
-fresh-nothing : (m : List ℕ) (blocks : List (List ℕ)) → Fresh m nothing blocks
-fresh-nothing m [] = tt
-fresh-nothing m (b ∷ blocks) = (refl, fresh-nothing m blocks)
+fresh-noId : (m : List ℕ) (blocks : List (List ℕ)) → Fresh m noId blocks
+fresh-noId m [] = tt
+fresh-noId m (b ∷ blocks) = (refl, fresh-noId m blocks)
 
 module _ (m : List ℕ) (o : Octets m) (r : Record) (f : WellFormed m r) where
   again : List ℕ
@@ -209,17 +209,17 @@ module _ (m : List ℕ) (o : Octets m) (r : Record) (f : WellFormed m r) where
   tail = flatten (f .blocks) ++ f .rest
 
   id-is : idOf m ≡ f .id
-  id-is = ap (λ (l : List ℕ). getD l 1 0) (f .lies)
+  id-is = ap (λ (l : List ℕ). getD l 1 0) (f .octets)
 
   after-head : drop 2 m ≡ toLE 2 (f .set) ++ (again ++ tail)
   unfolding again tail
-  after-head = ap (drop 2) (f .lies)
+  after-head = ap (drop 2) (f .octets)
 
   small : f .set < 65536
-  small = let h : getD m 3 0 ≡ f .set / 256 = ap (λ (l : List ℕ). getD l 3 0) (f .lies) in omega (arith, o 3)
+  small = let h : getD m 3 0 ≡ f .set / 256 = ap (λ (l : List ℕ). getD l 3 0) (f .octets) in omega (arith, o 3)
 
   two-octets : 2 ≤ length m
-  two-octets = rw (f .lies) (omega arith)
+  two-octets = rw (f .octets) (omega arith)
 
   four-octets : 4 ≤ length m
   four-octets = room 2 2 m (toLE 2 (f .set)) (again ++ tail) two-octets after-head refl
@@ -231,7 +231,7 @@ module _ (m : List ℕ) (o : Octets m) (r : Record) (f : WellFormed m r) where
   after-set = after 2 2 m (toLE 2 (f .set)) (again ++ tail) after-head refl
 
   -- the sets are there, they agree, and the blocks follow
-  after-sets : (start (idOf m) ≤ length m) × (setsAgree m ≡ true) × (drop (start (idOf m)) m ≡ tail)
+  after-sets : (blocksAt (idOf m) ≤ length m) × (setsAgree m ≡ true) × (drop (blocksAt (idOf m)) m ≡ tail)
   unfolding again
   after-sets =
       rw (id-is, set-is)
@@ -242,15 +242,15 @@ module _ (m : List ℕ) (o : Octets m) (r : Record) (f : WellFormed m r) where
       (λ n. rw n (four-octets, refl, rw n at after-set)))
 
   end : ℕ
-  end = start (idOf m) + length (flatten (f .blocks))
+  end = blocksAt (idOf m) + length (flatten (f .blocks))
 
   ends-right : endFault m end ≡ accept tt
   unfolding endFault end tail
   ends-right =
       by-bool (eqb (versionOf m) 1)
       (λ y.
-      let v : f .version ≡ 1 = sym (ap (λ (l : List ℕ). getD l 0 0) (f .lies)) ∙ eqb-true (versionOf m) 1 y in
-      let d : drop end m ≡ [] = after (start (idOf m)) (length (flatten (f .blocks))) m (flatten (f .blocks)) (f .rest) (after-sets .2) refl ∙ f .ends v in
+      let v : f .version ≡ 1 = sym (ap (λ (l : List ℕ). getD l 0 0) (f .octets)) ∙ eqb-true (versionOf m) 1 y in
+      let d : drop end m ≡ [] = after (blocksAt (idOf m)) (length (flatten (f .blocks))) m (flatten (f .blocks)) (f .rest) (after-sets .2) refl ∙ f .ends v in
       let n : length m - end ≡ 0 = sym (length-drop end m) ∙ ap length d in
       rw (y, le-ltb end (length m) (omega arith)))
       (λ n. rw n)
@@ -259,12 +259,12 @@ module _ (m : List ℕ) (o : Octets m) (r : Record) (f : WellFormed m r) where
   unfolding parse body blocksFrom tail end
   back =
       let a = after-sets in
-      let w = walks m (f .blocks) nothing (start (idOf m)) (f .rest) (a .0) (a .2) (rw (id-is, set-is) (f .whole)) (fresh-nothing m (f .blocks)) (f .once) in
+      let w = walks m (f .blocks) noId (blocksAt (idOf m)) (f .rest) (a .0) (a .2) (rw (id-is, set-is) (f .whole)) (fresh-noId m (f .blocks)) (f .once) in
       let n : blockCount (idOf m) (setOf m) ≡ length (f .blocks) = rw (id-is, set-is) (sym (f .count)) in
-      let v : versionOf m ≡ f .version = ap (λ (l : List ℕ). getD l 0 0) (f .lies) in
+      let v : versionOf m ≡ f .version = ap (λ (l : List ℕ). getD l 0 0) (f .octets) in
       let g : assigned (idOf m) ≡ true = rw id-is (f .assigned) in
       let h : readable (versionOf m) (idOf m) ≡ true = rw (id-is, v) (is-readable (f .version) (f .id) (f .readable)) in
-      rw (le-leb (length m) messageLimit (f .limit), le-leb 2 (length m) two-octets, g, h, le-leb (start (idOf m)) (length m) (a .0), a .1, n, w, ends-right)
+      rw (le-leb (length m) messageLimit (f .limit), le-leb 2 (length m) two-octets, g, h, le-leb (blocksAt (idOf m)) (length m) (a .0), a .1, n, w, ends-right)
 
 -- ---- the theorem
 
@@ -273,7 +273,7 @@ accept-is : (m : List ℕ) (r : Record) (c : Checked (List (List ℕ))) → answ
 accept-is m r (refuse x) e = absurd (no-zero x (ap (λ (a : Reading). a .refusal) e))
 accept-is m r (accept blocks) e = (blocks, refl, ap (λ (a : Reading). a .value) e)
 
--- The reader returns number 0 and a record exactly where the message is well formed with that record.
+-- What `read` returns, by its contract, is number 0 and a record exactly where the message is well formed with that record.
 pub exact : (m : List ℕ) → Octets m → (r : Record) → (answer (reading m) ≡ accepted r) ↔ WellFormed m r
 unfolding reading
 exact m o r = (forwards, backwards)

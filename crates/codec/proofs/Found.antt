@@ -12,7 +12,7 @@ use Rattle.codec.specs.Refusal.{Checked, refuse, accept, andThen, number
 use Rattle.codec.specs.Octets.{Octets}
 use Rattle.codec.specs.Layout.{Layout, Values, zeroes, value}
 use Rattle.codec.specs.Technology.{bit, known}
-use Rattle.codec.specs.Message.{messageLimit, versionOf, idOf, assigned, readable, setsAgree, blockCount, setOf, start, carriesBlocks, layoutsOf, blockAt, also, nothing, blockFault, Walked, before, walk, endFault, blocksFrom, body, parse, fieldsIn, columnOf, recordOf, reading}
+use Rattle.codec.specs.Message.{messageLimit, versionOf, idOf, assigned, readable, setsAgree, blockCount, setOf, blocksAt, carriesBlocks, layoutsOf, blockAt, also, noId, blockFault, Walked, prepend, walk, endFault, blocksFrom, body, parse, fieldsIn, columnOf, recordOf, reading}
 use Rattle.codec.specs.Places.{Roomy, note, noted, blockOrZeros, Placed, recordAt, columnAt}
 use Rattle.codec.specs.Records.{blank, capabilities, configurations, answer, accepted, refused}
 use Rattle.codec.proofs.Laws.{octets-part}
@@ -96,7 +96,7 @@ module _ (m : List ℕ) (o : Octets m) (id : ℕ) (known : id < 4) where
       chained (blockFault m came at) _ w e λ u a e₁.
       chained (walk m n (also (getD m at 0) came) (at + getD m (at + 1) 0)) _ w e₁ λ w₁ e₂ e₃.
       let s = sound m came at a in
-      let q : before (blockAt m at) w₁ ≡ w = cc in
+      let q : prepend (blockAt m at) w₁ ≡ w = cc in
       subst (λ (w : Walked). Told came at found (w .blocks)) q
       (told-next came at found (w₁ .blocks) z l s (told n (also (getD m at 0) came) (at + getD m (at + 1) 0) (note (getD m at 0) at found) w₁ (λ d. z (omega arith)) (noted-length (getD m at 0) at found l) e₂))
 
@@ -106,7 +106,7 @@ module _ (m : List ℕ) (o : Octets m) (id : ℕ) (known : id < 4) where
     pub roomy : Roomy L 2 (blockOrZeros m at)
     pub fields : value L 2 (blockOrZeros m at) ≡ fieldsIn L id blocks
 
-  kept : (blocks : List (List ℕ)) (at : ℕ) → Told nothing at (replicate 5 0) blocks → Kept blocks (getD (noted blocks at (replicate 5 0)) id 0)
+  kept : (blocks : List (List ℕ)) (at : ℕ) → Told noId at (replicate 5 0) blocks → Kept blocks (getD (noted blocks at (replicate 5 0)) id 0)
   kept blocks at (absent f g) =
       let z : getD (noted blocks at (replicate 5 0)) id 0 ≡ 0 = f ∙ getD-replicate 5 id 0 0 (omega arith) in
       let zeros = block-zeros (eqb (idOf m) 1) id in
@@ -115,8 +115,8 @@ module _ (m : List ℕ) (o : Octets m) (id : ℕ) (known : id < 4) where
       let b : blockOrZeros m p ≡ blockAt m p = rw (ne-eqb p 0 (s .there)) in
       rw f (record { whole = λ n. (s .two, s .whole); roomy = rw b (s .roomy); fields = rw b (sym g) })
 
-  pub keeps : (n at : ℕ) (w : Walked) → (at ≡ 0 → ⊥) → walk m n nothing at ≡ accept w → Kept (w .blocks) (getD (noted (w .blocks) at (replicate 5 0)) id 0)
-  keeps n at w z e = kept (w .blocks) at (told n nothing at (replicate 5 0) w z refl e)
+  pub keeps : (n at : ℕ) (w : Walked) → (at ≡ 0 → ⊥) → walk m n noId at ≡ accept w → Kept (w .blocks) (getD (noted (w .blocks) at (replicate 5 0)) id 0)
+  keeps n at w z e = kept (w .blocks) at (told n noId at (replicate 5 0) w z refl e)
 
 -- ---- an accepted message
 
@@ -126,10 +126,10 @@ pub record Parsed (m : List ℕ) (blocks : List (List ℕ)) : Type 0 where
   pub head : 2 ≤ length m
   pub assigned : assigned (idOf m) ≡ true
   pub readable : readable (versionOf m) (idOf m) ≡ true
-  pub sets : start (idOf m) ≤ length m
+  pub sets : blocksAt (idOf m) ≤ length m
   pub agree : setsAgree m ≡ true
   pub end : ℕ
-  pub walked : walk m (blockCount (idOf m) (setOf m)) nothing (start (idOf m)) ≡ accept (record { blocks = blocks; end = end })
+  pub walked : walk m (blockCount (idOf m) (setOf m)) noId (blocksAt (idOf m)) ≡ accept (record { blocks = blocks; end = end })
   pub ended : endFault m end ≡ accept tt
 
 pub parsed : (m : List ℕ) (blocks : List (List ℕ)) → parse m ≡ accept blocks → Parsed m blocks
@@ -139,9 +139,9 @@ parsed m blocks e =
     demanded (leb 2 (length m)) endsEarly _ blocks e₁ λ y₂ e₂.
     demanded (assigned (idOf m)) reservedId _ blocks e₂ λ y₃ e₃.
     demanded (readable (versionOf m) (idOf m)) wrongVersion _ blocks e₃ λ y₄ e₄.
-    demanded (leb (start (idOf m)) (length m)) endsEarly _ blocks e₄ λ y₅ e₅.
+    demanded (leb (blocksAt (idOf m)) (length m)) endsEarly _ blocks e₄ λ y₅ e₅.
     demanded (setsAgree m) setsDiffer _ blocks e₅ λ y₆ e₆.
-    chained (walk m (blockCount (idOf m) (setOf m)) nothing (start (idOf m))) _ blocks e₆ λ w e₇ e₈.
+    chained (walk m (blockCount (idOf m) (setOf m)) noId (blocksAt (idOf m))) _ blocks e₆ λ w e₇ e₈.
     chained (endFault m (w .end)) _ blocks e₈ λ u e₉ e₁₀.
     let q : w .blocks ≡ blocks = cc in
     record {
@@ -171,10 +171,10 @@ module _ (m : List ℕ) (o : Octets m) (blocks : List (List ℕ)) (e : parse m �
   pub four : 4 ≤ length m
   four = omega (arith, p .sets, start-four (eqb (idOf m) 2))
 
-  pub kept-here : (id : ℕ) (k : id < 4) → Kept m o id k blocks (getD (noted blocks (start (idOf m)) (replicate 5 0)) id 0)
-  kept-here id k = keeps m o id k (blockCount (idOf m) (setOf m)) (start (idOf m)) (record { blocks = blocks; end = p .end }) (λ z. omega (arith, start-four (eqb (idOf m) 2))) (p .walked)
+  pub kept-here : (id : ℕ) (k : id < 4) → Kept m o id k blocks (getD (noted blocks (blocksAt (idOf m)) (replicate 5 0)) id 0)
+  kept-here id k = keeps m o id k (blockCount (idOf m) (setOf m)) (blocksAt (idOf m)) (record { blocks = blocks; end = p .end }) (λ z. omega (arith, start-four (eqb (idOf m) 2))) (p .walked)
 
-  module _ (found : List ℕ) (f : carriesBlocks (idOf m) ≡ true → found ≡ noted blocks (start (idOf m)) (replicate 5 0)) where
+  module _ (found : List ℕ) (f : carriesBlocks (idOf m) ≡ true → found ≡ noted blocks (blocksAt (idOf m)) (replicate 5 0)) where
     pub placed : length found ≡ 5 → carriesBlocks (idOf m) ≡ true → Placed (layoutsOf (idOf m)) m found
     placed l c = record {
       whole = λ id k. rw (f c) (kept-here id k .whole);

@@ -9,7 +9,7 @@ use lib.ListN.{length, getD, replicate}
 use borrow.Author.Tests.{le-leb, leb-true, eqb-true}
 use Rattle.codec.specs.Refusal.{accept, notAllowed, blockTooSmall}
 use Rattle.codec.specs.Octets.{Octets, part, ofLE}
-use Rattle.codec.specs.Layout.{Test, any, oneOf, between, Layout, number, octets, counted, member, inside, test, spell, zeroes, allowed, value, need, least, fault}
+use Rattle.codec.specs.Layout.{Test, any, oneOf, between, Layout, number, octets, counted, member, inside, test, spelled, zeroes, allowed, value, need, least, fault}
 use Rattle.codec.specs.Blocks.{capabilityBlock, configurationBlock}
 use Rattle.codec.specs.Places.{Roomy}
 use Rattle.codec.proofs.Outcomes.{and-true, or-true, demanded}
@@ -49,7 +49,7 @@ least-from (counted y x t c ∷ L) at = omega arith
 pub roomy : (L : Layout) → fits L ≡ true → (at : ℕ) (s : List ℕ) → Octets s → least L at ≤ length s → fault L at s ≡ accept tt → Roomy L at s
 roomy [] f at s o h e = h
 roomy (number x w t ∷ L) f at s o h e = demanded (test t (ofLE w at s)) notAllowed _ tt e λ y e₁. roomy L f (at + w) s o h e₁
-roomy (octets x n t ∷ L) f at s o h e = demanded (spell t (part at n s)) notAllowed _ tt e λ y e₁. roomy L f (at + n) s o h e₁
+roomy (octets x n t ∷ L) f at s o h e = demanded (spelled t (part at n s)) notAllowed _ tt e λ y e₁. roomy L f (at + n) s o h e₁
 roomy (counted y x t c ∷ L) f at s o h e =
     let g = and-true (within t c) (fits L) f in
     demanded (test t (getD s at 0)) notAllowed _ tt e λ a e₁.
@@ -67,7 +67,7 @@ least-need (counted y x t c ∷ L) at s = omega (arith, least-from L (at + 1 + g
 pub no-fault : (L : Layout) (at : ℕ) (s : List ℕ) → least L at ≤ length s → fault L at s ≡ accept tt → (need L at s ≤ length s) × (allowed L (value L at s) ≡ true)
 no-fault [] at s h e = (h, refl)
 no-fault (number x w t ∷ L) at s h e = demanded (test t (ofLE w at s)) notAllowed _ tt e λ y e₁. let m = no-fault L (at + w) s h e₁ in (m .0, rw (y, m .1))
-no-fault (octets x n t ∷ L) at s h e = demanded (spell t (part at n s)) notAllowed _ tt e λ y e₁. let m = no-fault L (at + n) s h e₁ in (m .0, rw (y, m .1))
+no-fault (octets x n t ∷ L) at s h e = demanded (spelled t (part at n s)) notAllowed _ tt e λ y e₁. let m = no-fault L (at + n) s h e₁ in (m .0, rw (y, m .1))
 no-fault (counted y x t c ∷ L) at s h e =
     demanded (test t (getD s at 0)) notAllowed _ tt e λ a e₁.
     demanded (leb (least L (at + 1 + getD s at 0)) (length s)) blockTooSmall _ tt e₁ λ z e₂.
@@ -77,7 +77,7 @@ no-fault (counted y x t c ∷ L) at s h e =
 pub fault-none : (L : Layout) (at : ℕ) (s : List ℕ) → need L at s ≤ length s → allowed L (value L at s) ≡ true → fault L at s ≡ accept tt
 fault-none [] at s h e = refl
 fault-none (number x w t ∷ L) at s h e = let a = and-true (test t (ofLE w at s)) (allowed L (value L (at + w) s)) e in rw (a .0) (fault-none L (at + w) s h (a .1))
-fault-none (octets x n t ∷ L) at s h e = let a = and-true (spell t (part at n s)) (allowed L (value L (at + n) s)) e in rw (a .0) (fault-none L (at + n) s h (a .1))
+fault-none (octets x n t ∷ L) at s h e = let a = and-true (spelled t (part at n s)) (allowed L (value L (at + n) s)) e in rw (a .0) (fault-none L (at + n) s h (a .1))
 fault-none (counted y x t c ∷ L) at s h e =
     let k = at + 1 + getD s at 0 in
     let a = and-true (test t (getD s at 0)) (allowed L (value L k s)) e in

@@ -8,3 +8,4 @@ pub mod MessageCases
 pub mod Found
 pub mod Exact
 pub mod StarredTable
+pub mod Needs

@@ -12,7 +12,7 @@ use borrow.Author.Tests.{le-leb, lt-leb, ne-eqb}
 use Rattle.codec.specs.Refusal.{Checked, refuse, accept, andThen, numberIn}
 use Rattle.codec.specs.Octets.{ofLE}
 use Rattle.codec.specs.Layout.{member}
-use Rattle.codec.specs.Message.{messageLimit, versionOf, idOf, assigned, readable, setOf, start, carriesBlocks, blockCount, nothing, Walked, walk, endFault, blocksFrom, body, parse}
+use Rattle.codec.specs.Message.{messageLimit, versionOf, idOf, assigned, readable, setOf, blocksAt, carriesBlocks, blockCount, noId, Walked, walk, endFault, blocksFrom, body, parse}
 use Rattle.codec.specs.Places.{noted, Finds, Judged}
 use Rattle.codec.proofs.Outcomes.{no-zero, or-false}
 
@@ -50,10 +50,10 @@ module _ (m : List ℕ) (end : ℕ) where
   unfolding endFault
   end-none t = rw t
 
-module _ (m : List ℕ) (n at : ℕ) (found : List ℕ) {f : ℕ} {left : List ℕ} (l : length left ≡ 5) (h : Finds (walk m n nothing at) at found f left) where
+module _ (m : List ℕ) (n at : ℕ) (found : List ℕ) {f : ℕ} {left : List ℕ} (l : length left ≡ 5) (h : Finds (walk m n noId at) at found f left) where
   pub blocks-stop : (f ≡ 0 → ⊥) → Judged true (blocksFrom m n at) at found f left
   unfolding blocksFrom
-  blocks-stop z = go (walk m n nothing at) h
+  blocks-stop z = go (walk m n noId at) h
     where
       go : (w : Checked Walked) → Finds w at found f left → Judged true (andThen w λ w. andThen (endFault m (w .end)) λ _. accept (w .blocks)) at found f left
       go (refuse x) h = judged-refused h z l
@@ -61,7 +61,7 @@ module _ (m : List ℕ) (n at : ℕ) (found : List ℕ) {f : ℕ} {left : List �
 
   pub blocks-end : {g : ℕ} → f ≡ 0 → g ≡ numberIn (endFault m (getD left 4 0)) → Judged true (blocksFrom m n at) at found g left
   unfolding blocksFrom
-  blocks-end {g} z e = go (walk m n nothing at) h
+  blocks-end {g} z e = go (walk m n noId at) h
     where
       last : (w : Walked) (c : Checked (Unit {0})) → left ≡ noted (w .blocks) at found → g ≡ numberIn c → Judged true (andThen c λ _. accept (w .blocks)) at found g left
       last w (refuse x) p e = judged-refused e (λ z. no-zero x (sym e ∙ z)) l
@@ -79,7 +79,7 @@ module _ (m : List ℕ) where
   body-unread e = rw e
 
   module _ (r : readable (versionOf m) (idOf m) ≡ true) where
-    pub body-short : length m < start (idOf m) → 2 ≡ numberIn (body m)
+    pub body-short : length m < blocksAt (idOf m) → 2 ≡ numberIn (body m)
     unfolding body
     body-short l = rw (r, lt-leb _ _ l)
 

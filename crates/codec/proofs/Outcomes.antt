@@ -33,7 +33,7 @@ no-zero notAllowed e = omega arith
 no-zero leftOver e = omega arith
 
 module _ {A C : Type 0} where
-  -- number 0 is given exactly where nothing is refused
+  -- number 0 is given exactly where noId is refused
   pub by-number : (c : Checked A) → numberIn c ≡ 0 → ((a : A) → c ≡ accept a → C) → C
   by-number (refuse x) e k = absurd (no-zero x e)
   by-number (accept a) e k = k a refl

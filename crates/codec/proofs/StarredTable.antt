@@ -1,4 +1,4 @@
--- The starred messages of 01, one statement over the table.
+-- The starred messages of 01: one statement over the table, of what `read` returns by its contract.
 use Prim.Native.Nat.{ℕ}
 use mathlib.Core.Path.{refl}
 use lib.Count.{ones}

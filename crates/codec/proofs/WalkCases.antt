@@ -14,7 +14,7 @@ use Rattle.codec.specs.Refusal.{Checked, refuse, accept, andThen, number
 use Rattle.codec.specs.Octets.{Octets}
 use Rattle.codec.specs.Layout.{least, fault}
 use Rattle.codec.specs.Technology.{bit}
-use Rattle.codec.specs.Message.{idOf, setOf, layoutsOf, blockAt, also, blockFault, Walked, before, walk}
+use Rattle.codec.specs.Message.{idOf, setOf, layoutsOf, blockAt, also, blockFault, Walked, prepend, walk}
 use Rattle.codec.specs.Places.{note, noted, Finds}
 use Rattle.codec.proofs.Laws.{part-length}
 use Rattle.codec.proofs.Outcomes.{by-number, and-true, demanded}
@@ -96,7 +96,7 @@ module _ (m : List ℕ) (came : ℕ → Bool) (at : ℕ) where
   find-stop (suc n) f found left p e h = go (blockFault m came at) e
     where
       go : (c : Checked (Unit {0})) → f ≡ numberIn c
-          → Finds (andThen c λ _. andThen (walk m n (also (getD m at 0) came) (at + getD m (at + 1) 0)) λ w. accept (before (blockAt m at) w)) at found f left
+          → Finds (andThen c λ _. andThen (walk m n (also (getD m at 0) came) (at + getD m (at + 1) 0)) λ w. accept (prepend (blockAt m at) w)) at found f left
       go (refuse x) e = e
       go (accept u) e = absurd (h e)
 
@@ -108,8 +108,8 @@ module _ (m : List ℕ) (came : ℕ → Bool) (at : ℕ) where
   find-next (suc n) f found left p s a h = rw a (go (walk m n (also (getD m at 0) came) (at + getD m (at + 1) 0)) (rw (sub-one (suc n)) at h))
     where
       go : (c : Checked Walked) → Finds c (at + getD m (at + 1) 0) (note (getD m at 0) at found) f left
-          → Finds (andThen c λ w. accept (before (blockAt m at) w)) at found f left
+          → Finds (andThen c λ w. accept (prepend (blockAt m at) w)) at found f left
       go (refuse x) h = h
       go (accept w) h =
-          let e : noted (before (blockAt m at) w .blocks) at found ≡ noted (w .blocks) (at + getD m (at + 1) 0) (note (getD m at 0) at found) = λ i. noted (w .blocks) (at + s .size i) (note (s .first i) at found) in
+          let e : noted (prepend (blockAt m at) w .blocks) at found ≡ noted (w .blocks) (at + getD m (at + 1) 0) (note (getD m at 0) at found) = λ i. noted (w .blocks) (at + s .size i) (note (s .first i) at found) in
           (h .0, h .1 ∙ sym e, h .2)

@@ -1,15 +1,13 @@
--- The blocks: 01's table, a row for each technology, in the table's order and by its names.
+-- The blocks: 01's table, a row for each technology, in the table's order and by its names, with the octets of each field.
 use Prim.Native.Nat.{ℕ, zero, suc}
 use mathlib.Core.List.{[], _∷_}
 use Rattle.codec.specs.Layout.{Test, any, oneOf, between, free, letters, number, octets, counted, Layout}
 
 -- ---- what both columns allow
 
--- ms
 abbrev pub interval : Test
 interval = oneOf (96 ∷ 120 ∷ 240 ∷ 600 ∷ [])
 
--- ms
 abbrev pub slot : Test
 slot = between 1 2
 
@@ -18,29 +16,32 @@ periodic = between 0 1
 
 -- ---- capability: message 1. 003 decides that these parts belong to the Response and not to the Request.
 
+-- Needs 20.
 abbrev pub uwbCapability : Layout
 uwbCapability =
-    octets "address" 2 free
-    ∷ number "channels" 4 any
-    ∷ number "preamble indexes" 4 any
-    ∷ number "config IDs" 4 any
-    ∷ number "shortest interval" 2 interval
-    ∷ number "shortest slot" 1 slot
-    ∷ number "roles" 1 any
+    octets "address" 2 free  -- 2-3
+    ∷ number "channels" 4 any  -- 4-7
+    ∷ number "preamble indexes" 4 any  -- 8-11
+    ∷ number "config IDs" 4 any  -- 12-15
+    ∷ number "shortest interval" 2 interval  -- 16-17, ms
+    ∷ number "shortest slot" 1 slot  -- 18, ms
+    ∷ number "roles" 1 any  -- 19
     ∷ []
 
+-- Needs 9.
 abbrev pub csCapability : Layout
 csCapability =
-    number "security types" 1 any
-    ∷ octets "address" 6 free
+    number "security types" 1 any  -- 2
+    ∷ octets "address" 6 free  -- 3-8
     ∷ []
 
+-- Needs 6.
 abbrev pub nanCapability : Layout
 nanCapability =
-    number "features" 1 any
-    ∷ number "periodic" 1 periodic
-    ∷ number "bandwidth" 1 any
-    ∷ number "receive chains" 1 any
+    number "features" 1 any  -- 2
+    ∷ number "periodic" 1 periodic  -- 3
+    ∷ number "bandwidth" 1 any  -- 4
+    ∷ number "receive chains" 1 any  -- 5
     ∷ []
 
 -- ---- configuration: message 2
@@ -48,40 +49,44 @@ nanCapability =
 -- the fields after the key
 abbrev pub uwbAfterKey : Layout
 uwbAfterKey =
-    octets "country" 2 letters
-    ∷ number "role" 1 (between 1 2)
-    ∷ number "mode" 1 (between 1 2)
+    octets "country" 2 letters  -- 2 octets
+    ∷ number "role" 1 (between 1 2)  -- 1 octet
+    ∷ number "mode" 1 (between 1 2)  -- 1 octet
     ∷ []
 
+-- Needs 19+k.
 abbrev pub uwbConfiguration : Layout
 uwbConfiguration =
-    octets "address" 2 free
-    ∷ number "session ID" 4 any
-    ∷ number "config ID" 1 any
-    ∷ number "channel" 1 any
-    ∷ number "preamble index" 1 any
-    ∷ number "interval" 2 interval
-    ∷ number "slot" 1 slot
-    ∷ counted "key length" "key" (oneOf (8 ∷ 16 ∷ 32 ∷ [])) 32
+    octets "address" 2 free  -- 2-3
+    ∷ number "session ID" 4 any  -- 4-7
+    ∷ number "config ID" 1 any  -- 8
+    ∷ number "channel" 1 any  -- 9
+    ∷ number "preamble index" 1 any  -- 10
+    ∷ number "interval" 2 interval  -- 11-12, ms
+    ∷ number "slot" 1 slot  -- 13, ms
+    ∷ counted "key length" "key" (oneOf (8 ∷ 16 ∷ 32 ∷ [])) 32  -- 14, and k octets
     ∷ uwbAfterKey
 
+-- Needs 9.
 abbrev pub csConfiguration : Layout
 csConfiguration =
-    number "security level" 1 (between 0 4)
-    ∷ octets "address" 6 free
+    number "security level" 1 (between 0 4)  -- 2
+    ∷ octets "address" 6 free  -- 3-8
     ∷ []
 
+-- Needs 5+n.
 abbrev pub nanConfiguration : Layout
 nanConfiguration =
-    counted "name length" "name" (between 1 64) 64
-    ∷ number "role" 1 (between 0 1)
-    ∷ number "periodic" 1 periodic
+    counted "name length" "name" (between 1 64) 64  -- 2, and n octets
+    ∷ number "role" 1 (between 0 1)  -- 1 octet
+    ∷ number "periodic" 1 periodic  -- 1 octet
     ∷ []
 
 -- ---- both: RSSI's two blocks are alike
 
+-- Needs 8.
 abbrev pub rssiBlock : Layout
-rssiBlock = octets "address" 6 free ∷ []
+rssiBlock = octets "address" 6 free ∷ []  -- 2-7
 
 -- ---- by technology ID. A block with an ID from 4 on has no field that is read.
 

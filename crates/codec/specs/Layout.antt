@@ -14,16 +14,16 @@ pub data Test : Type 0 where
   oneOf : List ℕ → Test
   between : ℕ → ℕ → Test
 
--- which octets are allowed
-pub data Word : Type 0 where
-  free letters : Word
+-- which octets are allowed: any, or letters A to Z
+pub data Spelling : Type 0 where
+  free letters : Spelling
 
 -- A field, by the name that 01's table gives it.
 -- number: so many octets, the lowest first. octets: so many, in wire order.
 -- counted: a length octet, then as many octets, kept in an array of that capacity with zeros past them.
 pub data Field : Type 0 where
   number : String → (width : ℕ) → Test → Field
-  octets : String → (count : ℕ) → Word → Field
+  octets : String → (count : ℕ) → Spelling → Field
   counted : String → String → Test → (capacity : ℕ) → Field
 
 abbrev pub Layout : Type 0
@@ -38,7 +38,6 @@ member (y ∷ l) x = eqb x y || member l x
 unfoldable pub inside : ℕ → ℕ → ℕ → Bool
 inside low high x = leb low x && leb x high
 
--- letters A to Z
 unfoldable pub alphabetic : List ℕ → Bool
 alphabetic [] = true
 alphabetic (x ∷ l) = inside 65 90 x && alphabetic l
@@ -48,9 +47,9 @@ test any x = true
 test (oneOf l) x = member l x
 test (between low high) x = inside low high x
 
-abbrev pub spell : Word → List ℕ → Bool
-spell free l = true
-spell letters l = alphabetic l
+abbrev pub spelled : Spelling → List ℕ → Bool
+spelled free l = true
+spelled letters l = alphabetic l
 
 -- ---- what the fields of a block hold
 
@@ -69,7 +68,7 @@ zeroes (counted y x t c ∷ L) = (0, (replicate c 0, zeroes L))
 abbrev pub allowed : (L : Layout) → Values L → Bool
 allowed [] v = true
 allowed (number x w t ∷ L) v = test t (v .0) && allowed L (v .1)
-allowed (octets x n t ∷ L) v = spell t (v .0) && allowed L (v .1)
+allowed (octets x n t ∷ L) v = spelled t (v .0) && allowed L (v .1)
 allowed (counted y x t c ∷ L) v = test t (v .0) && allowed L (v .1 .1)
 
 -- ---- the octets of a block s. A place counts from the block's ID octet, so its fields start at place 2.
@@ -88,7 +87,7 @@ need (number x w t ∷ L) at s = need L (at + w) s
 need (octets x n t ∷ L) at s = need L (at + n) s
 need (counted y x t c ∷ L) at s = need L (at + 1 + getD s at 0) s
 
--- what the first size test is against: the need, as far as it is known before a length octet is read
+-- what the first size test is against: the need, or the place after the first length octet
 abbrev pub least : Layout → ℕ → ℕ
 least [] at = at
 least (number x w t ∷ L) at = least L (at + w)
@@ -99,7 +98,7 @@ least (counted y x t c ∷ L) at = at + 1
 abbrev pub fault : Layout → ℕ → List ℕ → Checked (Unit {0})
 fault [] at s = accept tt
 fault (number x w t ∷ L) at s = demand (test t (ofLE w at s)) notAllowed (fault L (at + w) s)
-fault (octets x n t ∷ L) at s = demand (spell t (part at n s)) notAllowed (fault L (at + n) s)
+fault (octets x n t ∷ L) at s = demand (spelled t (part at n s)) notAllowed (fault L (at + n) s)
 fault (counted y x t c ∷ L) at s =
     demand (test t (getD s at 0)) notAllowed
     (demand (leb (least L (at + 1 + getD s at 0)) (length s)) blockTooSmall

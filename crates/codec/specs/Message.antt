@@ -30,7 +30,7 @@ unfoldable pub assigned : ℕ → Bool
 unfolding member
 assigned id = member (0 ∷ 1 ∷ 2 ∷ 3 ∷ 6 ∷ 7 ∷ []) id
 
--- version 1 is read whole, versions 2 to 255 for IDs 0 and 1 only
+-- version 1 is read for every assigned ID, versions 2 to 255 for IDs 0 and 1 only
 unfoldable pub readable : ℕ → ℕ → Bool
 readable version id = eqb version 1 || (ltb 1 version && ltb id 2)
 
@@ -39,9 +39,9 @@ readable version id = eqb version 1 || (ltb 1 version && ltb id 2)
 abbrev pub setOf : List ℕ → ℕ
 setOf m = ofLE 2 2 m
 
--- the place after the sets
-abbrev pub start : ℕ → ℕ
-start id = cond (eqb id 2) 6 4
+-- the place after the sets, where the blocks start
+abbrev pub blocksAt : ℕ → ℕ
+blocksAt id = cond (eqb id 2) 6 4
 
 -- compared on all 16 bits
 abbrev pub setsAgree : List ℕ → Bool
@@ -81,11 +81,12 @@ pub record Walked : Type 0 where
   pub blocks : List (List ℕ)
   pub end : ℕ
 
-abbrev pub before : List ℕ → Walked → Walked
-before b w = record { blocks = b ∷ w .blocks; end = w .end }
+abbrev pub prepend : List ℕ → Walked → Walked
+prepend b w = record { blocks = b ∷ w .blocks; end = w .end }
 
-abbrev pub nothing : ℕ → Bool
-nothing id = false
+-- which IDs came before
+abbrev pub noId : ℕ → Bool
+noId id = false
 
 abbrev pub also : ℕ → (ℕ → Bool) → ℕ → Bool
 also new came id = eqb id new || came id
@@ -96,7 +97,7 @@ walk m zero came at = accept (record { blocks = []; end = at })
 walk m (suc n) came at =
     andThen (blockFault m came at) λ _.
     andThen (walk m n (also (getD m at 0) came) (at + getD m (at + 1) 0)) λ w.
-    accept (before (blockAt m at) w)
+    accept (prepend (blockAt m at) w)
 
 -- End of the message: version 1 allows no octet more. In the versions above it octets after the known part are ignored.
 unfoldable pub endFault : List ℕ → ℕ → Checked (Unit {0})
@@ -105,7 +106,7 @@ endFault m end = demand (not (eqb (versionOf m) 1 && ltb end (length m))) leftOv
 -- after the last block, the rule for the end of the message
 unfoldable pub blocksFrom : List ℕ → ℕ → ℕ → Checked (List (List ℕ))
 blocksFrom m n at =
-    andThen (walk m n nothing at) λ w.
+    andThen (walk m n noId at) λ w.
     andThen (endFault m (w .end)) λ _.
     accept (w .blocks)
 
@@ -115,9 +116,9 @@ blocksFrom m n at =
 unfoldable pub body : List ℕ → Checked (List (List ℕ))
 body m =
     demand (readable (versionOf m) (idOf m)) wrongVersion
-    (demand (leb (start (idOf m)) (length m)) endsEarly
+    (demand (leb (blocksAt (idOf m)) (length m)) endsEarly
     (demand (setsAgree m) setsDiffer
-    (blocksFrom m (blockCount (idOf m) (setOf m)) (start (idOf m)))))
+    (blocksFrom m (blockCount (idOf m) (setOf m)) (blocksAt (idOf m)))))
 
 unfoldable pub parse : List ℕ → Checked (List (List ℕ))
 parse m =

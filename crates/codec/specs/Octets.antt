@@ -17,7 +17,7 @@ ofLE zero at s = 0
 ofLE (suc zero) at s = getD s at 0
 ofLE (suc (suc w)) at s = getD s at 0 + 256 * ofLE (suc w) (at + 1) s
 
--- the w octets of a number
+-- the w octets of a number below 256 ^ w
 abbrev pub toLE : ℕ → ℕ → List ℕ
 toLE zero x = []
 toLE (suc zero) x = x ∷ []

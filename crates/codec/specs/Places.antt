@@ -42,7 +42,7 @@ pub record Judged (kept : Bool) (c : Checked (List (List ℕ))) (at : ℕ) (foun
 
 -- ---- the record that the places give
 
--- an absent technology's block reads as zeros
+-- An absent technology's fields are those of a block of zeros; no block needs more than 20 where k and n are zero.
 abbrev pub blockOrZeros : List ℕ → ℕ → List ℕ
 blockOrZeros m at = cond (eqb at 0) (replicate 20 0) (blockAt m at)
 

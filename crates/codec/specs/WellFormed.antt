@@ -39,8 +39,8 @@ pub record WellFormed (m : List ℕ) (r : Record) : Type 0 where
   pub set : ℕ
   pub blocks : List (List ℕ)
   pub rest : List ℕ
-  -- the octets
-  pub lies : m ≡ version ∷ id ∷ (sets id set ++ (flatten blocks ++ rest))
+  -- how the octets lie
+  pub octets : m ≡ version ∷ id ∷ (sets id set ++ (flatten blocks ++ rest))
   pub limit : length m ≤ messageLimit
   -- the head
   pub assigned : assigned id ≡ true

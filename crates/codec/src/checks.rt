@@ -14,7 +14,7 @@ ghost use Prim.Native.Nat.{_≤_};
 ghost use lib.Count.{ones};
 ghost use lib.ListN.{length};
 ghost use Rattle.codec.specs.Refusal.{numberIn};
-ghost use Rattle.codec.specs.Message.{messageLimit, idOf, setOf, carriesBlocks, readable, endFault, blocksFrom, body, parse, start};
+ghost use Rattle.codec.specs.Message.{messageLimit, idOf, setOf, carriesBlocks, readable, endFault, blocksFrom, body, parse, blocksAt};
 ghost use Rattle.codec.specs.Places.{Judged};
 
 // A message has at most so many octets.
@@ -37,7 +37,7 @@ fn end_fault(m: &[u8], end: usize) -> u8
     0
 }
 
-// The first fault of a message that carries a set alone, 0 for none.
+// The first fault from the version on of a message that carries a set alone, 0 for none.
 fn set_fault(m: &[u8]) -> u8
     requires { ⌜ (2 ≤ length (now m)) × (carriesBlocks (idOf (now m)) ≡ false) ⌝ }
     ensures { λ f. ⌜ f ≡ numberIn (body (now (m .entry))) ⌝ }
@@ -63,7 +63,7 @@ fn blocks_fault(m: &[u8], at: usize, found: &mut [u16; 5]) -> u8
     end_fault(m, wide(found[4]))
 }
 
-// The first fault of a Capability Response.
+// The first fault from the version on of a Capability Response.
 fn response_fault(m: &[u8], found: &mut [u16; 5]) -> u8
     requires { ⌜ (2 ≤ length (now m)) × (length (now m) ≤ messageLimit) × (idOf (now m) ≡ 1) × (length (now found) ≡ 5) ⌝ }
     ensures { λ f. ⌜ Judged true (body (now (m .entry))) 4 (now (found .entry)) f (now (found .exit)) ⌝ }
@@ -77,7 +77,7 @@ fn response_fault(m: &[u8], found: &mut [u16; 5]) -> u8
     blocks_fault(m, 4, found)
 }
 
-// The first fault of a Configuration.
+// The first fault from the version on of a Configuration.
 fn configuration_fault(m: &[u8], found: &mut [u16; 5]) -> u8
     requires { ⌜ (2 ≤ length (now m)) × (length (now m) ≤ messageLimit) × (idOf (now m) ≡ 2) × (length (now found) ≡ 5) ⌝ }
     ensures { λ f. ⌜ Judged true (body (now (m .entry))) 6 (now (found .entry)) f (now (found .exit)) ⌝ }
@@ -97,7 +97,7 @@ fn configuration_fault(m: &[u8], found: &mut [u16; 5]) -> u8
 // The first fault of a message; for none it is 0, and `found` has the places of the blocks of message 1 or 2.
 pub(crate) fn message_fault(m: &[u8], found: &mut [u16; 5]) -> u8
     requires { ⌜ length (now found) ≡ 5 ⌝ }
-    ensures { λ f. ⌜ Judged (carriesBlocks (idOf (now (m .entry)))) (parse (now (m .entry))) (start (idOf (now (m .entry)))) (now (found .entry)) f (now (found .exit)) ⌝ }
+    ensures { λ f. ⌜ Judged (carriesBlocks (idOf (now (m .entry)))) (parse (now (m .entry))) (blocksAt (idOf (now (m .entry)))) (now (found .entry)) f (now (found .exit)) ⌝ }
 {
     if MESSAGE_LIMIT < m.len() {
         return TOO_LONG;

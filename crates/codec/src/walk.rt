@@ -14,7 +14,7 @@ ghost use Rattle.codec.specs.Message.{messageLimit, also, blockFault, wa
 ghost use Rattle.codec.specs.Places.{note, Finds};
 
 // Whether a set has the bit of an ID.
-pub(crate) fn has(set: u16, id: u8) -> bool
+fn has(set: u16, id: u8) -> bool
     ensures { λ r. ⌜ r ≡ bit set id ⌝ }
 {
     if id < 16 {
