@@ -17,7 +17,7 @@ use Rattle.codec.specs.Places.{Roomy, note, noted, blockOrZeros, Placed,
 use Rattle.codec.specs.Records.{blank, capabilities, configurations, answer, accepted, refused}
 use Rattle.codec.proofs.Laws.{octets-part}
 use Rattle.codec.proofs.Outcomes.{by-bool, and-true, or-false, demanded, chained}
-use Rattle.codec.proofs.BlockCases.{no-layout}
+use Rattle.codec.proofs.BlockCases.{no-fields}
 use Rattle.codec.proofs.Layouts.{block, block-fits, block-zeros, roomy}
 use Rattle.codec.proofs.WalkCases.{Sound, sound}
 
@@ -155,10 +155,6 @@ parsed m blocks e =
       walked = e₇ ∙ ap (λ (bs : List (List ℕ)). accept (record { blocks = bs; end = w .end })) q;
       ended = e₉;
     }
-
--- a block with an ID from 4 on has no field
-no-fields : (capability : Bool) (id : ℕ) → 4 ≤ id → (v w : Values (block capability id)) → v ≡ w
-no-fields capability id h = subst (λ (L : Layout). (v w : Values L) → v ≡ w) (sym (no-layout capability id h)) (λ v w. refl)
 
 start-four : (b : Bool) → 4 ≤ cond b 6 4
 start-four true = omega arith

@@ -27,7 +27,7 @@ part-length at n s h = simp (length-take, length-drop) (omega arith)
 octets-drop : (n : ℕ) (l : List ℕ) → Octets l → Octets (drop n l)
 octets-drop n l o i = rw (getD-drop n l i 0) (o (n + i))
 
-octets-take : (n : ℕ) (l : List ℕ) → Octets l → Octets (take n l)
+pub octets-take : (n : ℕ) (l : List ℕ) → Octets l → Octets (take n l)
 octets-take zero l o i = omega arith
 octets-take (suc n) [] o i = omega arith
 octets-take (suc n) (x ∷ l) o zero = o 0

@@ -28,7 +28,7 @@ fits (number x w t ∷ L) = fits L
 fits (octets x n t ∷ L) = fits L
 fits (counted y x t c ∷ L) = within t c && fits L
 
-within-le : (t : Test) (c k : ℕ) → k < 256 → within t c ≡ true → test t k ≡ true → k ≤ c
+pub within-le : (t : Test) (c k : ℕ) → k < 256 → within t c ≡ true → test t k ≡ true → k ≤ c
 unfolding member inside
 within-le any c k b e h = omega (arith, leb-true 255 c e)
 within-le (oneOf []) c k b e h = let z : _≡_ {A = ℕ} 0 1 = cc in absurd (omega arith)
@@ -55,6 +55,12 @@ roomy (counted y x t c ∷ L) f at s o h e =
     demanded (test t (getD s at 0)) notAllowed _ tt e λ a e₁.
     demanded (leb (least L (at + 1 + getD s at 0)) (length s)) blockTooSmall _ tt e₁ λ z e₂.
     (within-le t c (getD s at 0) (o at) (g .0) a, roomy L (g .1) (at + 1 + getD s at 0) s o (leb-true _ _ z) e₂)
+
+pub need-from : (L : Layout) (at : ℕ) (s : List ℕ) → at ≤ need L at s
+need-from [] at s = omega arith
+need-from (number x w t ∷ L) at s = omega (arith, need-from L (at + w) s)
+need-from (octets x n t ∷ L) at s = omega (arith, need-from L (at + n) s)
+need-from (counted y x t c ∷ L) at s = omega (arith, need-from L (at + 1 + getD s at 0) s)
 
 pub least-need : (L : Layout) (at : ℕ) (s : List ℕ) → least L at ≤ need L at s
 least-need [] at s = omega arith

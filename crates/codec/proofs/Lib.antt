@@ -3,9 +3,13 @@ pub mod Outcomes
 pub mod Bits
 pub mod BlockCases
 pub mod Layouts
+pub mod Fields
+pub mod Counting
+pub mod Columns
 pub mod WalkCases
 pub mod MessageCases
 pub mod Found
 pub mod Exact
+pub mod ReadBack
 pub mod StarredTable
 pub mod Needs

@@ -1,11 +1,12 @@
 -- Layouts: the fields of a block as data, and what a layout means for the octets of a block.
-use Prim.Native.Nat.{ℕ, _+_, _-_}
+use Prim.Native.Nat.{ℕ, _+_, _-_, _^_, _<_}
+use mathlib.Core.Path.{_≡_}
 use Prim.Native.String.{String}
 use mathlib.Core.List.{List, [], _∷_, _++_}
 use mathlib.Core.Bool.{Bool, true, false, _&&_, _||_}
-use lib.ListN.{length, getD, replicate}
+use lib.ListN.{length, getD, take, drop, replicate}
 use lib.Dec.{leb, eqb}
-use Rattle.codec.specs.Octets.{part, ofLE}
+use Rattle.codec.specs.Octets.{Octets, allZero, part, ofLE, toLE}
 use Rattle.codec.specs.Refusal.{Checked, accept, demand, blockTooSmall, notAllowed}
 
 -- which numbers are allowed
@@ -70,6 +71,34 @@ allowed [] v = true
 allowed (number x w t ∷ L) v = test t (v .0) && allowed L (v .1)
 allowed (octets x n t ∷ L) v = spelled t (v .0) && allowed L (v .1)
 allowed (counted y x t c ∷ L) v = test t (v .0) && allowed L (v .1 .1)
+
+-- what the types of the code ensure: numbers of their width, arrays of octets
+abbrev pub Typed : (L : Layout) → Values L → Type 0
+Typed [] v = Unit {0}
+Typed (number x w t ∷ L) v = (v .0 < 256 ^ w) × Typed L (v .1)
+Typed (octets x n t ∷ L) v = (length (v .0) ≡ n) × (Octets (v .0) × Typed L (v .1))
+Typed (counted y x t c ∷ L) v = (v .0 < 256) × ((length (v .1 .0) ≡ c) × (Octets (v .1 .0) × Typed L (v .1 .1)))
+
+-- octets past a counted length are zero
+abbrev pub cleared : (L : Layout) → Values L → Bool
+cleared [] v = true
+cleared (number x w t ∷ L) v = cleared L (v .1)
+cleared (octets x n t ∷ L) v = cleared L (v .1)
+cleared (counted y x t c ∷ L) v = allZero (drop (v .0) (v .1 .0)) && cleared L (v .1 .1)
+
+-- every field is zero
+abbrev pub zeroed : (L : Layout) → Values L → Bool
+zeroed [] v = true
+zeroed (number x w t ∷ L) v = eqb (v .0) 0 && zeroed L (v .1)
+zeroed (octets x n t ∷ L) v = allZero (v .0) && zeroed L (v .1)
+zeroed (counted y x t c ∷ L) v = eqb (v .0) 0 && (allZero (v .1 .0) && zeroed L (v .1 .1))
+
+-- the octets of the fields, every one where its layout has it and nothing more
+abbrev pub write : (L : Layout) → Values L → List ℕ
+write [] v = []
+write (number x w t ∷ L) v = toLE w (v .0) ++ write L (v .1)
+write (octets x n t ∷ L) v = v .0 ++ write L (v .1)
+write (counted y x t c ∷ L) v = v .0 ∷ (take (v .0) (v .1 .0) ++ write L (v .1 .1))
 
 -- ---- the octets of a block s. A place counts from the block's ID octet, so its fields start at place 2.
 

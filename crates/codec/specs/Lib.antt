@@ -5,6 +5,9 @@ pub mod Blocks
 pub mod Records
 pub mod Technology
 pub mod Message
-pub mod Places
 pub mod WellFormed
+pub mod Valid
+pub mod NormalForm
+pub mod Writing
 pub mod Starred
+pub mod Places

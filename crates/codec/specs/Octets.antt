@@ -1,11 +1,17 @@
 -- Lists of octets: their parts, and the numbers in them.
 use Prim.Native.Nat.{ℕ, zero, suc, _+_, _*_, _/_, _%_, _<_}
 use mathlib.Core.List.{List, [], _∷_}
+use mathlib.Core.Bool.{Bool, true, _&&_}
+use lib.Dec.{eqb}
 use lib.ListN.{getD, take, drop}
 
 -- each element is an octet
 abbrev pub Octets : List ℕ → Type 0
 Octets l = (i : ℕ) → getD l i 0 < 256
+
+unfoldable pub allZero : List ℕ → Bool
+allZero [] = true
+allZero (x ∷ l) = eqb x 0 && allZero l
 
 -- n octets from a place on
 abbrev pub part : ℕ → ℕ → List ℕ → List ℕ

@@ -1,5 +1,5 @@
 -- Records: the structs of the code as columns of 01's table. A record does not hold the version.
-use Prim.Native.Nat.{ℕ}
+use Prim.Native.Nat.{ℕ, zero, suc}
 use Rattle.codec.specs.Layout.{Layout, Values, zeroes}
 use Rattle.codec.specs.Blocks.{uwbCapability, csCapability, nanCapability, uwbConfiguration, csConfiguration, nanConfiguration, rssiBlock, capabilityBlock, configurationBlock}
 use Rattle.codec.specs.Refusal.{Checked, refuse, accept, numberOf}
@@ -59,22 +59,62 @@ toNanConfiguration v = record { «name_length» = v .0; name = v .1 .0; role = v
 abbrev pub toRssi : Values rssiBlock → Rssi
 toRssi v = record { address = v .0 }
 
+-- ---- and back
+
+abbrev pub ofUwbCapability : UwbCapability → Values uwbCapability
+ofUwbCapability r = (r .address, (r .channels .0, (r .«preamble_indexes» .0, (r .«config_ids» .0, (r .«shortest_interval», (r .«shortest_slot», (r .roles, tt)))))))
+
+abbrev pub ofCsCapability : CsCapability → Values csCapability
+ofCsCapability r = (r .«security_types», (r .address, tt))
+
+abbrev pub ofNanCapability : NanCapability → Values nanCapability
+ofNanCapability r = (r .features, (r .periodic, (r .bandwidth, (r .«receive_chains», tt))))
+
+abbrev pub ofUwbConfiguration : UwbConfiguration → Values uwbConfiguration
+ofUwbConfiguration r = (r .address, (r .«session_id», (r .«config_id» .0, (r .channel .0, (r .«preamble_index» .0, (r .interval, (r .slot, (r .«key_length», (r .key, (r .country, (r .role, (r .mode, tt))))))))))))
+
+abbrev pub ofCsConfiguration : CsConfiguration → Values csConfiguration
+ofCsConfiguration r = (r .«security_level», (r .address, tt))
+
+abbrev pub ofNanConfiguration : NanConfiguration → Values nanConfiguration
+ofNanConfiguration r = (r .«name_length», (r .name, (r .role, (r .periodic, tt))))
+
+abbrev pub ofRssi : Rssi → Values rssiBlock
+ofRssi r = (r .address, tt)
+
+abbrev pub ofCapability : Capability → (id : ℕ) → Values (capabilityBlock id)
+ofCapability r zero = ofUwbCapability (r .uwb)
+ofCapability r (suc zero) = ofCsCapability (r .cs)
+ofCapability r (suc (suc zero)) = ofNanCapability (r .nan)
+ofCapability r (suc (suc (suc zero))) = ofRssi (r .rssi)
+ofCapability r (suc (suc (suc (suc id)))) = tt
+
+abbrev pub ofConfiguration : Configuration → (id : ℕ) → Values (configurationBlock id)
+ofConfiguration r zero = ofUwbConfiguration (r .uwb)
+ofConfiguration r (suc zero) = ofCsConfiguration (r .cs)
+ofConfiguration r (suc (suc zero)) = ofNanConfiguration (r .nan)
+ofConfiguration r (suc (suc (suc zero))) = ofRssi (r .rssi)
+ofConfiguration r (suc (suc (suc (suc id)))) = tt
+
 -- ---- a column: the layout for each technology ID, and the struct with the fields of each
 
 pub record Column (A : Type 0) : Type 0 where
   pub layouts : ℕ → Layout
   pub make : ((id : ℕ) → Values (layouts id)) → A
+  pub fields : A → (id : ℕ) → Values (layouts id)
 
 abbrev pub capabilities : Column Capability
 capabilities = record {
   layouts = capabilityBlock;
   make = λ v. record { uwb = toUwbCapability (v 0); cs = toCsCapability (v 1); nan = toNanCapability (v 2); rssi = toRssi (v 3) };
+  fields = ofCapability;
 }
 
 abbrev pub configurations : Column Configuration
 configurations = record {
   layouts = configurationBlock;
   make = λ v. record { uwb = toUwbConfiguration (v 0); cs = toCsConfiguration (v 1); nan = toNanConfiguration (v 2); rssi = toRssi (v 3) };
+  fields = ofConfiguration;
 }
 
 -- all fields zero

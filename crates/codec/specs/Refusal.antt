@@ -21,6 +21,10 @@ pub data Refusal : Type 0 where
   notAllowed : Refusal
   -- octets are left over in version 1
   leftOver : Refusal
+  -- the lent buffer is shorter than what is to be written
+  bufferTooShort : Refusal
+  -- a record to be written is not valid
+  notValid : Refusal
 
 abbrev pub numberOf : Refusal → ℕ
 numberOf tooLong = 1
@@ -32,6 +36,8 @@ numberOf blockTooSmall = 6
 numberOf wrongBlock = 7
 numberOf notAllowed = 8
 numberOf leftOver = 9
+numberOf bufferTooShort = 11
+numberOf notValid = 12
 
 -- what checks give: a refusal, or what was read
 pub data Checked (A : Type 0) : Type 0 where

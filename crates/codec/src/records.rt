@@ -49,6 +49,13 @@ pub struct Reading {
     pub value: Record,
 }
 
+// A refusal's number and 0 octets, or 0 and how many octets were written.
+#[repr(C)]
+pub struct Written {
+    pub refusal: u8,
+    pub length: usize,
+}
+
 pub(crate) fn zero_capability() -> Capability
     ensures { λ r. ⌜ r ≡ blank capabilities ⌝ }
 {
