@@ -42,7 +42,7 @@ count-ones s (suc k) i =
     ones-step (s / 2 ^ i)
         ∙ rw (half s i, one-bit s i, count-ones s k (suc i), add-suc i k, suc-add i k) (omega arith)
 
-ones-none : ones 0 ≡ 0
+pub ones-none : ones 0 ≡ 0
 unfolding ones
 ones-none = refl
 

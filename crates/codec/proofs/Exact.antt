@@ -215,7 +215,7 @@ module _ (m : List ℕ) (o : Octets m) (r : Record) (f : WellFormed m r) where
   unfolding again tail
   after-head = ap (drop 2) (f .octets)
 
-  small : f .set < 65536
+  pub small : f .set < 65536
   small = let h : getD m 3 0 ≡ f .set / 256 = ap (λ (l : List ℕ). getD l 3 0) (f .octets) in omega (arith, o 3)
 
   two-octets : 2 ≤ length m

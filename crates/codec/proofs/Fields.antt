@@ -46,6 +46,15 @@ octets-append [] b o p i = p i
 octets-append (x ∷ a) b o p zero = o 0
 octets-append (x ∷ a) b o p (suc i) = octets-append a b (λ j. o (suc j)) p i
 
+pub octets-left : (a b : List ℕ) → Octets (a ++ b) → Octets a
+octets-left [] b o i = omega arith
+octets-left (x ∷ a) b o zero = o 0
+octets-left (x ∷ a) b o (suc i) = octets-left a b (λ j. o (suc j)) i
+
+pub octets-right : (a b : List ℕ) → Octets (a ++ b) → Octets b
+octets-right [] b o = o
+octets-right (x ∷ a) b o = octets-right a b (λ j. o (suc j))
+
 pub octets-LE : (w x : ℕ) → x < 256 ^ w → Octets (toLE w x)
 octets-LE zero x h = octets-none
 octets-LE (suc zero) x h = octets-cons x [] h octets-none
@@ -63,6 +72,16 @@ zeroed-zeroes [] = refl
 zeroed-zeroes (number x w t ∷ L) = zeroed-zeroes L
 zeroed-zeroes (octets x n t ∷ L) = rw (zeros-of n, zeroed-zeroes L)
 zeroed-zeroes (counted y x t c ∷ L) = rw (zeros-of c, zeroed-zeroes L)
+
+zero-under : (w : ℕ) → 0 < 256 ^ w
+zero-under zero = omega arith
+zero-under (suc w) = rw pow-suc (omega (arith, zero-under w))
+
+pub typed-zeroes : (L : Layout) → Typed L (zeroes L)
+typed-zeroes [] = tt
+typed-zeroes (number x w t ∷ L) = (zero-under w, typed-zeroes L)
+typed-zeroes (octets x n t ∷ L) = (length-replicate n 0, ((λ i. rw (octets-zeros n i) (omega arith)), typed-zeroes L))
+typed-zeroes (counted y x t c ∷ L) = (omega arith, (length-replicate c 0, ((λ i. rw (octets-zeros c i) (omega arith)), typed-zeroes L)))
 
 pub zeroed-only : (L : Layout) (v : Values L) → Typed L v → zeroed L v ≡ true → v ≡ zeroes L
 zeroed-only [] v h e = refl

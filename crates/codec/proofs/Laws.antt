@@ -58,6 +58,11 @@ two-of (x ∷ []) h = absurd (omega arith)
 two-of (x ∷ y ∷ []) h = refl
 two-of (x ∷ y ∷ z ∷ l) h = absurd (omega arith)
 
+pub two-head : (l : List ℕ) → 2 ≤ length l → take 2 l ≡ getD l 0 0 ∷ (getD l 1 0 ∷ [])
+two-head [] h = absurd (omega arith)
+two-head (x ∷ []) h = absurd (omega arith)
+two-head (x ∷ y ∷ l) h = refl
+
 drop-zeros : (k n : ℕ) → drop {A = ℕ} k (replicate n 0) ≡ replicate (n - k) 0
 drop-zeros zero n = ap (λ (j : ℕ). replicate j 0) (sym (sub-zero n))
 drop-zeros (suc k) zero = ap (λ (j : ℕ). replicate j 0) (sym (zero-sub (suc k)))

@@ -11,5 +11,7 @@ pub mod MessageCases
 pub mod Found
 pub mod Exact
 pub mod ReadBack
+pub mod Converse
+pub mod Demand2
 pub mod StarredTable
 pub mod Needs

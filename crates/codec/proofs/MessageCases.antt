@@ -6,15 +6,15 @@ use mathlib.Core.Logic.{⊎-elim}
 use mathlib.Core.Path.{_≡_, refl, sym, ap, _∙_}
 use mathlib.Core.Bool.{Bool, true, false, _&&_}
 use mathlib.Core.List.{List, []}
-use lib.Dec.{eqb, ltb}
+use lib.Dec.{leb, eqb, ltb}
 use lib.ListN.{length, getD}
-use borrow.Author.Tests.{le-leb, lt-leb, ne-eqb}
+use borrow.Author.Tests.{le-leb, lt-leb, leb-true, leb-false, ne-eqb}
 use Rattle.codec.specs.Refusal.{Checked, refuse, accept, andThen, numberIn}
 use Rattle.codec.specs.Octets.{ofLE}
 use Rattle.codec.specs.Layout.{member}
 use Rattle.codec.specs.Message.{messageLimit, versionOf, idOf, assigned, readable, setOf, blocksAt, carriesBlocks, blockCount, noId, Walked, walk, endFault, blocksFrom, body, parse}
 use Rattle.codec.specs.Places.{noted, Finds, Judged}
-use Rattle.codec.proofs.Outcomes.{no-zero, or-false}
+use Rattle.codec.proofs.Outcomes.{by-bool, no-zero, or-false}
 
 -- ---- what is judged
 
@@ -38,6 +38,15 @@ six-or-seven id l u = ⊎-elim (λ e. rw (← e) (refl, refl)) (λ h. let e : id
 pub not-assigned : (id : ℕ) → (id ≡ 0 → ⊥) → (id ≡ 1 → ⊥) → (id ≡ 2 → ⊥) → (id ≡ 3 → ⊥) → (id ≡ 6 → ⊥) → (id ≡ 7 → ⊥) → assigned id ≡ false
 unfolding assigned member
 not-assigned id n₀ n₁ n₂ n₃ n₆ n₇ = rw (ne-eqb id 0 n₀, ne-eqb id 1 n₁, ne-eqb id 2 n₂, ne-eqb id 3 n₃, ne-eqb id 6 n₆, ne-eqb id 7 n₇)
+
+pub assigned-under : (id : ℕ) → assigned id ≡ true → id < 256
+assigned-under id e =
+    by-bool (leb 8 id)
+    (λ y.
+    let h = leb-true 8 id y in
+    let z : _≡_ {A = ℕ} 0 1 = cc (not-assigned id (λ d. omega arith) (λ d. omega arith) (λ d. omega arith) (λ d. omega arith) (λ d. omega arith) (λ d. omega arith)) in
+    absurd (omega arith))
+    (λ n. omega (arith, leb-false 8 id n))
 
 -- ---- the end of the message, and the blocks
 

@@ -22,7 +22,6 @@ use Rattle.codec.proofs.Outcomes.{by-bool, and-true}
 use Rattle.codec.proofs.Counting.{count-under}
 use Rattle.codec.proofs.Columns.{rising-once, rising-rises, rising-count, capabilities-lawful, configurations-lawful, total, column-size, column-whole, column-exact, column-back, column-blank, octets-column, flatten-append}
 use Rattle.codec.proofs.Fields.{octets-none, octets-cons, octets-append, octets-LE}
-use Rattle.codec.proofs.Exact.{exact}
 
 -- what the blocks that are written keep
 record Good (r : Record) (blocks : List (List ℕ)) : Type 0 where
@@ -121,7 +120,7 @@ module _ (r : Record) (T : TypedRecord r) (ok : valid r ≡ true) where
       short : (a b : List ℕ) → length a ≤ 4 → length b ≤ 137 → suc (suc (length (a ++ b))) ≤ messageLimit
       short a b h k = omega (arith, length-append a b)
 
-  normal-octets : Octets (normal r)
+  pub normal-octets : Octets (normal r)
   unfolding normal
   normal-octets =
       let c = columnBlocks capabilities (setIn 1 r) (r .capability) in
@@ -159,7 +158,3 @@ module _ (r : Record) (T : TypedRecord r) (ok : valid r ≡ true) where
   pub normal-normal : NormalForm (normal r)
   unfolding normal-formed
   normal-normal = record { content = r; formed = normal-formed; first = refl; known = small; rising = good .rises; exact = good .exact }
-
--- reading the normal form of a valid record accepts and gives that record
-pub reads-back : (r : Record) → TypedRecord r → valid r ≡ true → answer (reading (normal r)) ≡ accepted r
-reads-back r T ok = exact (normal r) (normal-octets r T ok) r .1 (normal-formed r T ok)
