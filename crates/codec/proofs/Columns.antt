@@ -102,6 +102,7 @@ module _ {A : Type 0} (C : Column A) (F : (id : ℕ) → fits (C .layouts id) �
           → fieldsIn (C .layouts id) id (cond b (Block id ∷ rising C set a n (suc id)) (rising C set a n (suc id))) ≡ cond b (value (C .layouts id) 2 (Block id)) (zeroes (C .layouts id))
       here true e = rw (eq-eqb id id refl)
       here false e = e
+
       there : (b : Bool) → eqb lo id ≡ false → fieldsIn (C .layouts id) id (rising C set a n (suc lo)) ≡ cond (bit set id) (value (C .layouts id) 2 (Block id)) (zeroes (C .layouts id))
           → fieldsIn (C .layouts id) id (cond b (Block lo ∷ rising C set a n (suc lo)) (rising C set a n (suc lo))) ≡ cond (bit set id) (value (C .layouts id) 2 (Block id)) (zeroes (C .layouts id))
       there true d e = rw d e
@@ -180,8 +181,10 @@ module _ {A : Type 0} (C : Column A) (F : Lawful C) (set : ℕ) (a : A) (T : (id
     where
       W : List ℕ
       W = write (C .layouts lo) (C .fields a lo)
+
       R : List (List ℕ)
       R = rising C set a n (suc lo)
+
       go : (b : Bool) → length (flatten R) ≤ total (C .layouts) n (suc lo) → length W ≤ most (C .layouts lo) → length (flatten (cond b (Block C (F .fit) set a lo ∷ R) R)) ≤ 2 + most (C .layouts lo) + total (C .layouts) n (suc lo)
       go true h w = simp length-append (omega arith)
       go false h w = omega arith
@@ -193,8 +196,10 @@ module _ {A : Type 0} (C : Column A) (F : Lawful C) (set : ℕ) (a : A) (T : (id
     where
       W : List ℕ
       W = write (C .layouts lo) (C .fields a lo)
+
       R : List (List ℕ)
       R = rising C set a n (suc lo)
+
       go : (b : Bool) → Octets (flatten R) → Octets (flatten (cond b (Block C (F .fit) set a lo ∷ R) R))
       go true o =
           octets-append (Block C (F .fit) set a lo) (flatten R)
@@ -232,9 +237,9 @@ module _ {A : Type 0} (C : Column A) (F : Lawful C) (set : ℕ) (a : A) (T : (id
     column-fields : (id : ℕ) → id < 4 → fieldsIn (C .layouts id) id (columnBlocks C set a) ≡ C .fields a id
     column-fields id k =
         rising-fields C (F .fit) set a id 4 0 (omega arith) k
-            ∙ by-bool (bit set id)
-            (λ m. rw m (block-back C (F .fit) set a id (T id) (here-valid id k m) .0))
-            (λ n. rw n (sym (zeroed-only (C .layouts id) (C .fields a id) (T id) (rw n at (valid-at id k)))))
+        ∙ by-bool (bit set id)
+        (λ m. rw m (block-back C (F .fit) set a id (T id) (here-valid id k m) .0))
+        (λ n. rw n (sym (zeroed-only (C .layouts id) (C .fields a id) (T id) (rw n at (valid-at id k)))))
 
     pub column-back : columnOf C (columnBlocks C set a) ≡ a
     column-back =

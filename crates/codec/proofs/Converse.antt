@@ -138,9 +138,10 @@ module _ (m : List ℕ) (o : Octets m) (r : Record) (f : WellFormed m r) where
   pub record-valid : TypedRecord r × (valid r ≡ true)
   unfolding valid
   record-valid =
-      subst (λ (r : Record). TypedRecord r × (valid r ≡ true)) (sym (f .says))
-      (record { id = assigned-under (f .id) (f .assigned); set = omega arith; capability = capability-valid .1; configuration = configuration-valid .1 },
-      rw (f .assigned, lt-ltb (known (f .set)) 16 (omega arith), capability-valid .0, configuration-valid .0))
+      subst (λ (r : Record). TypedRecord r × (valid r ≡ true)) (sym (f .says)) (
+        record { id = assigned-under (f .id) (f .assigned); set = omega arith; capability = capability-valid .1; configuration = configuration-valid .1 },
+        rw (f .assigned, lt-ltb (known (f .set)) 16 (omega arith), capability-valid .0, configuration-valid .0),
+      )
 
 -- ---- a message in normal form is what is written of its record
 
@@ -226,12 +227,13 @@ module _ {A : Type 0} (C : Column A) (F : Lawful C) (set : ℕ) (a : A) where
     -- each block's fields are found by its ID
     each-fields : (blocks : List (List ℕ)) → Once blocks → Each (λ b. fieldsIn (C .layouts (getD b 0 0)) (getD b 0 0) blocks ≡ value (C .layouts (getD b 0 0)) 2 b) blocks
     each-fields [] h = tt
-    each-fields (b ∷ blocks) h =
-        (rw (eq-eqb (getD b 0 0) (getD b 0 0) refl),
-        each-map (λ c. (getD c 0 0 ≡ getD b 0 0 → ⊥) × (fieldsIn (C .layouts (getD c 0 0)) (getD c 0 0) blocks ≡ value (C .layouts (getD c 0 0)) 2 c))
-        (λ c. fieldsIn (C .layouts (getD c 0 0)) (getD c 0 0) (b ∷ blocks) ≡ value (C .layouts (getD c 0 0)) 2 c)
-        (λ c p. rw (ne-eqb (getD b 0 0) (getD c 0 0) (λ q. p .0 (sym q))) (p .1))
-        blocks (each-both (λ c. getD c 0 0 ≡ getD b 0 0 → ⊥) (λ c. fieldsIn (C .layouts (getD c 0 0)) (getD c 0 0) blocks ≡ value (C .layouts (getD c 0 0)) 2 c) blocks (h .0) (each-fields blocks (h .1))))
+    each-fields (b ∷ blocks) h = (
+      rw (eq-eqb (getD b 0 0) (getD b 0 0) refl),
+      each-map (λ c. (getD c 0 0 ≡ getD b 0 0 → ⊥) × (fieldsIn (C .layouts (getD c 0 0)) (getD c 0 0) blocks ≡ value (C .layouts (getD c 0 0)) 2 c))
+          (λ c. fieldsIn (C .layouts (getD c 0 0)) (getD c 0 0) (b ∷ blocks) ≡ value (C .layouts (getD c 0 0)) 2 c)
+          (λ c p. rw (ne-eqb (getD b 0 0) (getD c 0 0) (λ q. p .0 (sym q))) (p .1))
+          blocks (each-both (λ c. getD c 0 0 ≡ getD b 0 0 → ⊥) (λ c. fieldsIn (C .layouts (getD c 0 0)) (getD c 0 0) blocks ≡ value (C .layouts (getD c 0 0)) 2 c) blocks (h .0) (each-fields blocks (h .1))),
+    )
 
     fields-of : (b : List ℕ) → fieldsIn (C .layouts (getD b 0 0)) (getD b 0 0) blocks ≡ value (C .layouts (getD b 0 0)) 2 b → C .fields a (getD b 0 0) ≡ value (C .layouts (getD b 0 0)) 2 b
     fields-of b e = rw here (F .here (λ id. fieldsIn (C .layouts id) id blocks) (getD b 0 0) ∙ e)

@@ -40,7 +40,7 @@ count-ones : (s k i : ℕ) → ones (s / 2 ^ i) ≡ count k i (bit s) + ones (s 
 count-ones s zero i = rw (add-zero i) (omega arith)
 count-ones s (suc k) i =
     ones-step (s / 2 ^ i)
-        ∙ rw (half s i, one-bit s i, count-ones s k (suc i), add-suc i k, suc-add i k) (omega arith)
+    ∙ rw (half s i, one-bit s i, count-ones s k (suc i), add-suc i k, suc-add i k) (omega arith)
 
 pub ones-none : ones 0 ≡ 0
 unfolding ones

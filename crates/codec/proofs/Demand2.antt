@@ -47,6 +47,7 @@ module _ (m : List ℕ) (o : Octets m) (r : Record) (accepts : answer (reading m
     where
       forwards : normal r ≡ m → NormalForm m
       forwards e = subst NormalForm e (normal-normal r (accepted-valid .0) (accepted-valid .1))
+
       backwards : NormalForm m → normal r ≡ m
       backwards n = ap normal (same-record r (n .content) (answer (reading m)) accepts (exact m o (n .content) .1 (n .formed))) ∙ normal-is m o n
 

@@ -3,6 +3,7 @@ pub mod Outcomes
 pub mod Bits
 pub mod BlockCases
 pub mod Layouts
+pub mod Puts
 pub mod Fields
 pub mod Counting
 pub mod Columns

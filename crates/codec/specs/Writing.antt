@@ -1,12 +1,20 @@
 -- Writing a record into a lent buffer.
-use Prim.Native.Nat.{ℕ, _+_}
+use Prim.Native.Nat.{ℕ, _+_, _≤_}
+use mathlib.Core.Bool.{Bool, true, false, cond}
 use mathlib.Core.Path.{_≡_}
-use mathlib.Core.List.{List, _++_}
+use mathlib.Core.List.{List, [], _∷_, _++_}
 use lib.Dec.{leb}
 use lib.ListN.{length, take, drop}
+use Rattle.codec.specs.Octets.{toLE}
 use Rattle.codec.specs.Refusal.{Checked, refuse, accept, demand, numberOf, bufferTooShort, notValid}
+use Rattle.codec.specs.Layout.{Layout, Values}
+use Rattle.codec.specs.Blocks.{uwbAfterKey}
+use Rattle.codec.specs.Technology.{bit}
+use Rattle.codec.specs.Records.{Column}
 use Rattle.codec.specs.Valid.{valid}
-use Rattle.codec.specs.NormalForm.{normal}
+use Rattle.codec.specs.NormalForm.{block, normal}
+use Rattle.codec.specs.declared.uwb.UwbCapability.{UwbCapability}
+use Rattle.codec.specs.declared.uwb.UwbConfiguration.{UwbConfiguration}
 use Rattle.codec.specs.declared.records.Record.{Record}
 use Rattle.codec.specs.declared.records.Written.{Written}
 
@@ -38,8 +46,38 @@ pub record Writes (r : Record) (d : List ℕ) (answer : Written) (e : List ℕ) 
 unfoldable pub over : List ℕ → ℕ → List ℕ → List ℕ
 over d at ws = take at d ++ (ws ++ drop (at + length ws) d)
 
--- e is d with ws from a place on, and next is the place after them
+-- e is d with ws from a place on, where there is room for them, and next is the place after them
 pub record Put (d : List ℕ) (at : ℕ) (ws : List ℕ) (e : List ℕ) (next : ℕ) : Type 0 where
   pub place : next ≡ at + length ws
   pub wrote : e ≡ over d at ws
   pub same : length e ≡ length d
+  pub room : at + length ws ≤ length d
+
+-- the octets of a block, if it is there
+abbrev pub blockIf : Bool → (L : Layout) → ℕ → Values L → List ℕ
+blockIf true L id v = block L id v
+blockIf false L id v = []
+
+-- the octets of UWB's sets of channels, preamble indexes and config IDs
+abbrev pub setOctets : UwbCapability → List ℕ
+setOctets v = toLE 4 (v .channels .0) ++ (toLE 4 (v .«preamble_indexes» .0) ++ toLE 4 (v .«config_ids» .0))
+
+-- the octets of the fields between UWB's address and its key length
+abbrev pub beforeKey : UwbConfiguration → List ℕ
+beforeKey v = toLE 4 (v .«session_id») ++ (v .«config_id» .0 ∷ (v .channel .0 ∷ (v .«preamble_index» .0 ∷ (toLE 2 (v .interval) ++ (v .slot ∷ [])))))
+
+-- the fields after UWB's key
+abbrev pub afterKey : UwbConfiguration → Values uwbAfterKey
+afterKey v = (v .country, (v .role, (v .mode, tt)))
+
+-- the octets of a column's blocks
+abbrev pub columnOctets : {A : Type 0} → Column A → ℕ → A → List ℕ
+columnOctets C set a =
+    blockIf (bit set 0) (C .layouts 0) 0 (C .fields a 0)
+    ++ (blockIf (bit set 1) (C .layouts 1) 1 (C .fields a 1)
+    ++ (blockIf (bit set 2) (C .layouts 2) 2 (C .fields a 2)
+    ++ blockIf (bit set 3) (C .layouts 3) 3 (C .fields a 3)))
+
+-- how many octets the blocks of a set take, where each technology's takes so many
+abbrev pub sizes : ℕ → ℕ → ℕ → ℕ → ℕ → ℕ
+sizes set uwb cs nan rssi = cond (bit set 0) uwb 0 + (cond (bit set 1) cs 0 + (cond (bit set 2) nan 0 + cond (bit set 3) rssi 0))

@@ -1,14 +1,20 @@
 // CS, channel sounding: its two blocks.
 use crate::octets::address_at;
 use crate::octets::inside;
+use crate::octets::put;
+use crate::octets::put_address;
+use crate::octets::zero_from;
 use crate::refusal::NOT_ALLOWED;
 ghost use mathlib.Core.Path.{_≡_};
-ghost use Prim.Native.Nat.{_≤_};
+ghost use mathlib.Core.Bool.{cond};
+ghost use Prim.Native.Nat.{_+_, _≤_};
 ghost use lib.ListN.{length};
 ghost use Rattle.codec.specs.Refusal.{numberIn};
 ghost use Rattle.codec.specs.Layout.{value, fault};
 ghost use Rattle.codec.specs.Blocks.{csCapability, csConfiguration};
-ghost use Rattle.codec.specs.Records.{toCsCapability, toCsConfiguration};
+ghost use Rattle.codec.specs.Records.{toCsCapability, toCsConfiguration, ofCsCapability, ofCsConfiguration};
+ghost use Rattle.codec.specs.Valid.{validFields};
+ghost use Rattle.codec.specs.Writing.{Put, blockIf};
 ghost use Rattle.codec.specs.Places.{Roomy};
 
 #[repr(C)]
@@ -53,4 +59,59 @@ pub(crate) fn configuration(b: &[u8]) -> CsConfiguration
         security_level: b[2],
         address,
     }
+}
+
+// Whether the fields are valid: allowed where the technology is present, and else zero.
+pub(crate) fn valid_capability(present: bool, v: CsCapability) -> bool
+    ensures { λ r. ⌜ r ≡ validFields csCapability present (ofCsCapability v) ⌝ }
+{
+    if present {
+        return true;
+    }
+    let address = v.address;
+    (v.security_types == 0) & zero_from(&address, 0)
+}
+
+// Writes the block where the technology is present.
+pub(crate) fn put_capability(present: bool, v: CsCapability, out: &mut [u8], at: usize) -> usize
+    requires { ⌜ at + cond present 9 0 ≤ length (now out) ⌝ }
+    ensures { λ r. ⌜ Put (now (out .entry)) at (blockIf present csCapability 1 (ofCsCapability v)) (now (out .exit)) r ⌝ }
+{
+    if !present {
+        return at;
+    }
+    let address = v.address;
+    let size = put(out, at, 1);
+    let fields = put(out, size, 9);
+    let next = put(out, fields, v.security_types);
+    put_address(out, next, &address)
+}
+
+pub(crate) fn valid_configuration(present: bool, v: CsConfiguration) -> bool
+    ensures { λ r. ⌜ r ≡ validFields csConfiguration present (ofCsConfiguration v) ⌝ }
+{
+    if present {
+        return inside(0, 4, v.security_level);
+    }
+    let address = v.address;
+    (v.security_level == 0) & zero_from(&address, 0)
+}
+
+pub(crate) fn put_configuration(
+    present: bool,
+    v: CsConfiguration,
+    out: &mut [u8],
+    at: usize,
+) -> usize
+    requires { ⌜ at + cond present 9 0 ≤ length (now out) ⌝ }
+    ensures { λ r. ⌜ Put (now (out .entry)) at (blockIf present csConfiguration 1 (ofCsConfiguration v)) (now (out .exit)) r ⌝ }
+{
+    if !present {
+        return at;
+    }
+    let address = v.address;
+    let size = put(out, at, 1);
+    let fields = put(out, size, 9);
+    let next = put(out, fields, v.security_level);
+    put_address(out, next, &address)
 }

@@ -1,15 +1,21 @@
 // Wi-Fi NAN RTT: its two blocks.
 use crate::octets::inside;
 use crate::octets::name_at;
+use crate::octets::put;
+use crate::octets::put_name;
+use crate::octets::zero_from;
 use crate::refusal::BLOCK_TOO_SMALL;
 use crate::refusal::NOT_ALLOWED;
 ghost use mathlib.Core.Path.{_≡_};
-ghost use Prim.Native.Nat.{_≤_};
+ghost use mathlib.Core.Bool.{cond};
+ghost use Prim.Native.Nat.{_+_, _≤_};
 ghost use lib.ListN.{length};
 ghost use Rattle.codec.specs.Refusal.{numberIn};
 ghost use Rattle.codec.specs.Layout.{value, fault};
 ghost use Rattle.codec.specs.Blocks.{nanCapability, nanConfiguration};
-ghost use Rattle.codec.specs.Records.{toNanCapability, toNanConfiguration};
+ghost use Rattle.codec.specs.Records.{toNanCapability, toNanConfiguration, ofNanCapability, ofNanConfiguration};
+ghost use Rattle.codec.specs.Valid.{validFields};
+ghost use Rattle.codec.specs.Writing.{Put, blockIf};
 ghost use Rattle.codec.specs.Places.{Roomy};
 
 #[repr(C)]
@@ -85,4 +91,66 @@ pub(crate) fn configuration(b: &[u8]) -> NanConfiguration
         role: b[role],
         periodic: b[periodic],
     }
+}
+
+// Whether the fields are valid: allowed where the technology is present, and else zero.
+pub(crate) fn valid_capability(present: bool, v: NanCapability) -> bool
+    ensures { λ r. ⌜ r ≡ validFields nanCapability present (ofNanCapability v) ⌝ }
+{
+    if present {
+        return inside(0, 1, v.periodic);
+    }
+    (v.features == 0) & ((v.periodic == 0) & ((v.bandwidth == 0) & (v.receive_chains == 0)))
+}
+
+// Writes the block where the technology is present.
+pub(crate) fn put_capability(present: bool, v: NanCapability, out: &mut [u8], at: usize) -> usize
+    requires { ⌜ at + cond present 6 0 ≤ length (now out) ⌝ }
+    ensures { λ r. ⌜ Put (now (out .entry)) at (blockIf present nanCapability 2 (ofNanCapability v)) (now (out .exit)) r ⌝ }
+{
+    if !present {
+        return at;
+    }
+    let size = put(out, at, 2);
+    let fields = put(out, size, 6);
+    let periodic = put(out, fields, v.features);
+    let bandwidth = put(out, periodic, v.periodic);
+    let chains = put(out, bandwidth, v.bandwidth);
+    put(out, chains, v.receive_chains)
+}
+
+pub(crate) fn valid_configuration(present: bool, v: NanConfiguration) -> bool
+    ensures { λ r. ⌜ r ≡ validFields nanConfiguration present (ofNanConfiguration v) ⌝ }
+{
+    let name = v.name;
+    if !present {
+        return (v.name_length == 0) & (zero_from(&name, 0) & ((v.role == 0) & (v.periodic == 0)));
+    }
+    if !inside(1, 64, v.name_length) {
+        return false;
+    }
+    let n = v.name_length as usize;
+    inside(0, 1, v.role) & (inside(0, 1, v.periodic) & zero_from(&name, n))
+}
+
+pub(crate) fn put_configuration(
+    present: bool,
+    v: NanConfiguration,
+    out: &mut [u8],
+    at: usize,
+) -> usize
+    requires { ⌜ (at + cond present (5 + v .«name_length») 0 ≤ length (now out)) × (v .«name_length» ≤ 64) ⌝ }
+    ensures { λ r. ⌜ Put (now (out .entry)) at (blockIf present nanConfiguration 2 (ofNanConfiguration v)) (now (out .exit)) r ⌝ }
+{
+    if !present {
+        return at;
+    }
+    let name = v.name;
+    let n = v.name_length as usize;
+    let size = put(out, at, 2);
+    let fields = put(out, size, 5 + v.name_length);
+    let octets = put(out, fields, v.name_length);
+    let role = put_name(out, octets, &name, n);
+    let periodic = put(out, role, v.role);
+    put(out, periodic, v.periodic)
 }

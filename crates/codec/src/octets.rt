@@ -1,10 +1,11 @@
-// Numbers and octets at a place of a slice.
+// Numbers and octets at a place of a slice: read, and written.
 ghost use mathlib.Core.Path.{_≡_};
-ghost use mathlib.Core.List.{_++_};
-ghost use Prim.Native.Nat.{_+_, _-_, _*_, _≤_};
-ghost use lib.ListN.{length, replicate};
-ghost use Rattle.codec.specs.Octets.{part, ofLE};
+ghost use mathlib.Core.List.{[], _∷_, _++_};
+ghost use Prim.Native.Nat.{_+_, _-_, _*_, _≤_, _<_};
+ghost use lib.ListN.{length, take, drop, replicate};
+ghost use Rattle.codec.specs.Octets.{allZero, part, ofLE, toLE};
 ghost use Rattle.codec.specs.Layout.{inside};
+ghost use Rattle.codec.specs.Writing.{Put};
 
 pub(crate) fn inside(low: u8, high: u8, x: u8) -> bool
     ensures { λ r. ⌜ r ≡ inside low high x ⌝ }
@@ -85,4 +86,95 @@ pub(crate) fn name_at(s: &[u8], at: usize, n: usize) -> [u8; 64]
     let mut out = [0u8; 64];
     bytes::copy(&s[at..at + n], &mut out);
     out
+}
+
+// Whether all octets from a place on are zero.
+pub(crate) fn zero_from(s: &[u8], from: usize) -> bool
+    ensures { λ r. ⌜ r ≡ allZero (drop from (now (s .entry))) ⌝ }
+{
+    let mut i = from;
+    while i < s.len() {
+        if s[i] != 0 {
+            return false;
+        }
+        i += 1;
+    }
+    true
+}
+
+// One octet. Each of these returns the place after what it wrote.
+pub(crate) fn put(out: &mut [u8], at: usize, x: u8) -> usize
+    requires { ⌜ at < length (now out) ⌝ }
+    ensures { λ r. ⌜ Put (now (out .entry)) at (x ∷ []) (now (out .exit)) r ⌝ }
+{
+    out[at] = x;
+    at + 1
+}
+
+// The two octets of a number.
+pub(crate) fn put_u16(out: &mut [u8], at: usize, x: u16) -> usize
+    requires { ⌜ at + 2 ≤ length (now out) ⌝ }
+    ensures { λ r. ⌜ Put (now (out .entry)) at (toLE 2 x) (now (out .exit)) r ⌝ }
+{
+    let high = put(out, at, (x % 256) as u8);
+    put(out, high, (x / 256) as u8)
+}
+
+// The four octets of a number.
+pub(crate) fn put_u32(out: &mut [u8], at: usize, x: u32) -> usize
+    requires { ⌜ at + 4 ≤ length (now out) ⌝ }
+    ensures { λ r. ⌜ Put (now (out .entry)) at (toLE 4 x) (now (out .exit)) r ⌝ }
+{
+    let high = put_u16(out, at, (x % 65536) as u16);
+    put_u16(out, high, (x / 65536) as u16)
+}
+
+// All octets of a slice.
+fn put_all(out: &mut [u8], at: usize, s: &[u8]) -> usize
+    requires { ⌜ at + length (now s) ≤ length (now out) ⌝ }
+    ensures { λ r. ⌜ Put (now (out .entry)) at (now (s .entry)) (now (out .exit)) r ⌝ }
+{
+    let end = at + s.len();
+    bytes::copy(s, &mut out[at..end]);
+    end
+}
+
+// The first n octets of a slice.
+fn put_first(out: &mut [u8], at: usize, s: &[u8], n: usize) -> usize
+    requires { ⌜ (n ≤ length (now s)) × (at + n ≤ length (now out)) ⌝ }
+    ensures { λ r. ⌜ Put (now (out .entry)) at (take n (now (s .entry))) (now (out .exit)) r ⌝ }
+{
+    put_all(out, at, &s[..n])
+}
+
+// Two octets: a UWB address, a country.
+pub(crate) fn put_pair(out: &mut [u8], at: usize, pair: &[u8; 2]) -> usize
+    requires { ⌜ at + 2 ≤ length (now out) ⌝ }
+    ensures { λ r. ⌜ Put (now (out .entry)) at (now (pair .entry)) (now (out .exit)) r × (length (now (pair .entry)) ≡ 2) ⌝ }
+{
+    put_all(out, at, pair)
+}
+
+// Six octets: the address of any other technology.
+pub(crate) fn put_address(out: &mut [u8], at: usize, address: &[u8; 6]) -> usize
+    requires { ⌜ at + 6 ≤ length (now out) ⌝ }
+    ensures { λ r. ⌜ Put (now (out .entry)) at (now (address .entry)) (now (out .exit)) r × (length (now (address .entry)) ≡ 6) ⌝ }
+{
+    put_all(out, at, address)
+}
+
+// The first k octets of a key.
+pub(crate) fn put_key(out: &mut [u8], at: usize, key: &[u8; 32], k: usize) -> usize
+    requires { ⌜ (k ≤ 32) × (at + k ≤ length (now out)) ⌝ }
+    ensures { λ r. ⌜ Put (now (out .entry)) at (take k (now (key .entry))) (now (out .exit)) r × (length (take k (now (key .entry))) ≡ k) ⌝ }
+{
+    put_first(out, at, key, k)
+}
+
+// The first n octets of a name.
+pub(crate) fn put_name(out: &mut [u8], at: usize, name: &[u8; 64], n: usize) -> usize
+    requires { ⌜ (n ≤ 64) × (at + n ≤ length (now out)) ⌝ }
+    ensures { λ r. ⌜ Put (now (out .entry)) at (take n (now (name .entry))) (now (out .exit)) r × (length (take n (now (name .entry))) ≡ n) ⌝ }
+{
+    put_first(out, at, name, n)
 }

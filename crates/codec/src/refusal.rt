@@ -16,3 +16,7 @@ pub(crate) const WRONG_BLOCK: u8 = 7;
 pub(crate) const NOT_ALLOWED: u8 = 8;
 
 pub(crate) const LEFT_OVER: u8 = 9;
+
+pub(crate) const BUFFER_TOO_SHORT: u8 = 11;
+
+pub(crate) const NOT_VALID: u8 = 12;

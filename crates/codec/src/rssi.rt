@@ -1,9 +1,17 @@
 // RSSI: its block, the same in both messages.
 use crate::octets::address_at;
+use crate::octets::put;
+use crate::octets::put_address;
+use crate::octets::zero_from;
 ghost use mathlib.Core.Path.{_≡_};
+ghost use mathlib.Core.Bool.{cond};
+ghost use Prim.Native.Nat.{_+_, _≤_};
+ghost use lib.ListN.{length};
 ghost use Rattle.codec.specs.Layout.{value};
 ghost use Rattle.codec.specs.Blocks.{rssiBlock};
-ghost use Rattle.codec.specs.Records.{toRssi};
+ghost use Rattle.codec.specs.Records.{toRssi, ofRssi};
+ghost use Rattle.codec.specs.Valid.{validFields};
+ghost use Rattle.codec.specs.Writing.{Put, blockIf};
 ghost use Rattle.codec.specs.Places.{Roomy};
 
 #[repr(C)]
@@ -17,4 +25,29 @@ pub(crate) fn block(b: &[u8]) -> Rssi
 {
     let address = address_at(b, 2);
     Rssi { address }
+}
+
+// Whether the fields are valid: allowed where the technology is present, and else zero.
+pub(crate) fn valid_block(present: bool, v: Rssi) -> bool
+    ensures { λ r. ⌜ r ≡ validFields rssiBlock present (ofRssi v) ⌝ }
+{
+    if present {
+        return true;
+    }
+    let address = v.address;
+    zero_from(&address, 0)
+}
+
+// Writes the block where the technology is present.
+pub(crate) fn put_block(present: bool, v: Rssi, out: &mut [u8], at: usize) -> usize
+    requires { ⌜ at + cond present 8 0 ≤ length (now out) ⌝ }
+    ensures { λ r. ⌜ Put (now (out .entry)) at (blockIf present rssiBlock 3 (ofRssi v)) (now (out .exit)) r ⌝ }
+{
+    if !present {
+        return at;
+    }
+    let address = v.address;
+    let size = put(out, at, 3);
+    let fields = put(out, size, 8);
+    put_address(out, fields, &address)
 }

@@ -2,18 +2,28 @@
 use crate::octets::inside;
 use crate::octets::key_at;
 use crate::octets::pair_at;
+use crate::octets::put;
+use crate::octets::put_key;
+use crate::octets::put_pair;
+use crate::octets::put_u16;
+use crate::octets::put_u32;
 use crate::octets::u16_at;
 use crate::octets::u32_at;
+use crate::octets::zero_from;
 use crate::refusal::BLOCK_TOO_SMALL;
 use crate::refusal::NOT_ALLOWED;
 ghost use mathlib.Core.Path.{_≡_};
+ghost use mathlib.Core.Bool.{_&&_, cond};
 ghost use mathlib.Core.List.{[], _∷_};
 ghost use Prim.Native.Nat.{_+_, _≤_};
-ghost use lib.ListN.{length};
+ghost use lib.ListN.{length, take, drop};
+ghost use Rattle.codec.specs.Octets.{allZero};
 ghost use Rattle.codec.specs.Refusal.{numberIn};
-ghost use Rattle.codec.specs.Layout.{member, alphabetic, test, value, fault};
+ghost use Rattle.codec.specs.Layout.{member, inside, alphabetic, test, zeroed, write, value, fault};
 ghost use Rattle.codec.specs.Blocks.{interval, uwbCapability, uwbConfiguration, uwbAfterKey};
-ghost use Rattle.codec.specs.Records.{toUwbCapability, toUwbConfiguration};
+ghost use Rattle.codec.specs.Records.{toUwbCapability, toUwbConfiguration, ofUwbCapability, ofUwbConfiguration};
+ghost use Rattle.codec.specs.Valid.{validFields};
+ghost use Rattle.codec.specs.Writing.{Put, blockIf, setOctets, beforeKey, afterKey};
 ghost use Rattle.codec.specs.Places.{Roomy};
 
 #[repr(C)]
@@ -176,4 +186,136 @@ pub(crate) fn configuration(b: &[u8]) -> UwbConfiguration
         role: b[role],
         mode: b[mode],
     }
+}
+
+// Whether the fields are valid: allowed where the technology is present, and else zero.
+pub(crate) fn valid_capability(present: bool, v: UwbCapability) -> bool
+    ensures { λ r. ⌜ r ≡ validFields uwbCapability present (ofUwbCapability v) ⌝ }
+{
+    if present {
+        return allowed_interval(v.shortest_interval) & inside(1, 2, v.shortest_slot);
+    }
+    let address = v.address;
+    zero_pair(&address)
+        & ((v.channels.0 == 0)
+            & ((v.preamble_indexes.0 == 0)
+                & ((v.config_ids.0 == 0)
+                    & ((v.shortest_interval == 0) & ((v.shortest_slot == 0) & (v.roles == 0))))))
+}
+
+// Writes the sets of channels, preamble indexes and config IDs.
+fn put_sets(v: UwbCapability, out: &mut [u8], at: usize) -> usize
+    requires { ⌜ at + 12 ≤ length (now out) ⌝ }
+    ensures { λ r. ⌜ Put (now (out .entry)) at (setOctets v) (now (out .exit)) r ⌝ }
+{
+    let preamble_indexes = put_u32(out, at, v.channels.0);
+    let config_ids = put_u32(out, preamble_indexes, v.preamble_indexes.0);
+    put_u32(out, config_ids, v.config_ids.0)
+}
+
+// Writes the block where the technology is present.
+pub(crate) fn put_capability(present: bool, v: UwbCapability, out: &mut [u8], at: usize) -> usize
+    requires { ⌜ at + cond present 20 0 ≤ length (now out) ⌝ }
+    ensures { λ r. ⌜ Put (now (out .entry)) at (blockIf present uwbCapability 0 (ofUwbCapability v)) (now (out .exit)) r ⌝ }
+{
+    if !present {
+        return at;
+    }
+    let address = v.address;
+    let size = put(out, at, 0);
+    let fields = put(out, size, 20);
+    let channels = put_pair(out, fields, &address);
+    let interval = put_sets(v, out, channels);
+    let slot = put_u16(out, interval, v.shortest_interval);
+    let roles = put(out, slot, v.shortest_slot);
+    put(out, roles, v.roles)
+}
+
+fn zero_pair(pair: &[u8; 2]) -> bool
+    ensures { λ r. ⌜ r ≡ allZero (now (pair .entry)) ⌝ }
+{
+    zero_from(pair, 0)
+}
+
+fn zero_key(key: &[u8; 32], from: usize) -> bool
+    ensures { λ r. ⌜ r ≡ allZero (drop from (now (key .entry))) ⌝ }
+{
+    zero_from(key, from)
+}
+
+fn zero_configuration(v: UwbConfiguration) -> bool
+    ensures { λ r. ⌜ r ≡ zeroed uwbConfiguration (ofUwbConfiguration v) ⌝ }
+{
+    let address = v.address;
+    let key = v.key;
+    let country = v.country;
+    let ids = (v.session_id == 0)
+        & ((v.config_id.0 == 0) & ((v.channel.0 == 0) & (v.preamble_index.0 == 0)));
+    let timing = (v.interval == 0) & ((v.slot == 0) & (v.key_length == 0));
+    let last = zero_pair(&country) & ((v.role == 0) & (v.mode == 0));
+    zero_pair(&address) & (ids & (timing & (zero_key(&key, 0) & last)))
+}
+
+pub(crate) fn valid_configuration(present: bool, v: UwbConfiguration) -> bool
+    ensures { λ r. ⌜ r ≡ validFields uwbConfiguration present (ofUwbConfiguration v) ⌝ }
+{
+    if !present {
+        return zero_configuration(v);
+    }
+    if !allowed_key_length(v.key_length) {
+        return false;
+    }
+    let key = v.key;
+    let country = v.country;
+    let k = v.key_length as usize;
+    let last = inside(1, 2, v.role) & (inside(1, 2, v.mode) & zero_key(&key, k));
+    allowed_interval(v.interval) & (inside(1, 2, v.slot) & (letters(country) & last))
+}
+
+// Writes the fields after the address and before the key.
+fn put_before_key(v: UwbConfiguration, out: &mut [u8], at: usize) -> usize
+    requires { ⌜ at + 10 ≤ length (now out) ⌝ }
+    ensures { λ r. ⌜ Put (now (out .entry)) at (beforeKey v) (now (out .exit)) r ⌝ }
+{
+    let config_id = put_u32(out, at, v.session_id);
+    let channel = put(out, config_id, v.config_id.0);
+    let preamble_index = put(out, channel, v.channel.0);
+    let interval = put(out, preamble_index, v.preamble_index.0);
+    let slot = put_u16(out, interval, v.interval);
+    put(out, slot, v.slot)
+}
+
+// Writes the fields after the key.
+fn put_after_key(v: UwbConfiguration, out: &mut [u8], at: usize) -> usize
+    requires { ⌜ at + 4 ≤ length (now out) ⌝ }
+    ensures { λ r. ⌜ Put (now (out .entry)) at (write uwbAfterKey (afterKey v)) (now (out .exit)) r × (length (v .country) ≡ 2) ⌝ }
+{
+    let country = v.country;
+    let role = put_pair(out, at, &country);
+    let mode = put(out, role, v.role);
+    put(out, mode, v.mode)
+}
+
+pub(crate) fn put_configuration(
+    present: bool,
+    v: UwbConfiguration,
+    out: &mut [u8],
+    at: usize,
+) -> usize
+    requires { ⌜ (at + cond present (19 + v .«key_length») 0 ≤ length (now out)) × (v .«key_length» ≤ 32) ⌝ }
+    ensures { λ r. ⌜ Put (now (out .entry)) at (blockIf present uwbConfiguration 0 (ofUwbConfiguration v)) (now (out .exit)) r ⌝ }
+{
+    if !present {
+        return at;
+    }
+    let address = v.address;
+    let key = v.key;
+    let k = v.key_length as usize;
+    let size = put(out, at, 0);
+    let fields = put(out, size, 19 + v.key_length);
+    let session_id = put_pair(out, fields, &address);
+    let key_length = put_before_key(v, out, session_id);
+    let octets = put(out, key_length, v.key_length);
+    let country = put_key(out, octets, &key, k);
+    put_after_key(v, out, country)
 }
