@@ -9,6 +9,7 @@ pub mod Counting
 pub mod Columns
 pub mod WalkCases
 pub mod MessageCases
+pub mod ValidCases
 pub mod Found
 pub mod Exact
 pub mod ReadBack

@@ -1,5 +1,5 @@
 -- The cases of the order of checks.
-use Prim.Native.Nat.{ℕ, _≤_, _<_}
+use Prim.Native.Nat.{ℕ, zero, suc, _≤_, _<_}
 use native.Mathlib.Omega.{arith}
 use native.Mathlib.Nat.{eq-or-lt-of-le}
 use mathlib.Core.Logic.{⊎-elim}
@@ -38,6 +38,14 @@ six-or-seven id l u = ⊎-elim (λ e. rw (← e) (refl, refl)) (λ h. let e : id
 pub not-assigned : (id : ℕ) → (id ≡ 0 → ⊥) → (id ≡ 1 → ⊥) → (id ≡ 2 → ⊥) → (id ≡ 3 → ⊥) → (id ≡ 6 → ⊥) → (id ≡ 7 → ⊥) → assigned id ≡ false
 unfolding assigned member
 not-assigned id n₀ n₁ n₂ n₃ n₆ n₇ = rw (ne-eqb id 0 n₀, ne-eqb id 1 n₁, ne-eqb id 2 n₂, ne-eqb id 3 n₃, ne-eqb id 6 n₆, ne-eqb id 7 n₇)
+
+pub low-assigned : (id : ℕ) → id < 4 → assigned id ≡ true
+unfolding assigned member
+low-assigned zero h = refl
+low-assigned (suc zero) h = refl
+low-assigned (suc (suc zero)) h = refl
+low-assigned (suc (suc (suc zero))) h = refl
+low-assigned (suc (suc (suc (suc id)))) h = absurd (omega arith)
 
 pub assigned-under : (id : ℕ) → assigned id ≡ true → id < 256
 assigned-under id e =

@@ -10,7 +10,7 @@ use borrow.Author.Tests.{not-true, not-false}
 use mathlib.Core.Bool.{Bool, true, false, not, cond}
 use Rattle.codec.specs.Octets.{toLE}
 use Rattle.codec.specs.Layout.{Layout, Values, write}
-use Rattle.codec.specs.Writing.{over, Put, blockIf}
+use Rattle.codec.specs.Writing.{over, Put, Sized, blockIf}
 
 module _ (d : List ℕ) (at : ℕ) where
   length-over : (ws : List ℕ) → at + length ws ≤ length d → length (over d at ws) ≡ length d
@@ -84,3 +84,10 @@ module _ (present : Bool) where
 
   pub room-present : (size room at : ℕ) → not present ≡ false → at + cond present size 0 ≤ room → at + size ≤ room
   room-present size room at h l = rw (not-false present h) at l
+
+-- the size of a block that is there
+pub sized : (present : Bool) (L : Layout) (id : ℕ) (v : Values L) (size r : ℕ) → present ≡ true → r ≡ size → 2 + length (write L v) ≡ size → Sized present L id v size r
+sized present L id v size r h e n = record { is = rw h e; long = rw h (omega (arith, n)) }
+
+pub unsized : (present : Bool) (L : Layout) (id : ℕ) (v : Values L) (size : ℕ) → present ≡ false → Sized present L id v size 0
+unsized present L id v size h = record { is = rw h; long = rw h }

@@ -58,6 +58,11 @@ abbrev pub blockIf : Bool → (L : Layout) → ℕ → Values L → List ℕ
 blockIf true L id v = block L id v
 blockIf false L id v = []
 
+-- r octets are what a block takes, if it is there
+pub record Sized (present : Bool) (L : Layout) (id : ℕ) (v : Values L) (size r : ℕ) : Type 0 where
+  pub is : r ≡ cond present size 0
+  pub long : length (blockIf present L id v) ≡ cond present size 0
+
 -- the octets of UWB's sets of channels, preamble indexes and config IDs
 abbrev pub setOctets : UwbCapability → List ℕ
 setOctets v = toLE 4 (v .channels .0) ++ (toLE 4 (v .«preamble_indexes» .0) ++ toLE 4 (v .«config_ids» .0))

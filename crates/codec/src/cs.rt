@@ -1,5 +1,6 @@
 // CS, channel sounding: its two blocks.
 use crate::octets::address_at;
+use crate::octets::address_length;
 use crate::octets::inside;
 use crate::octets::put;
 use crate::octets::put_address;
@@ -14,7 +15,7 @@ ghost use Rattle.codec.specs.Layout.{value, fault};
 ghost use Rattle.codec.specs.Blocks.{csCapability, csConfiguration};
 ghost use Rattle.codec.specs.Records.{toCsCapability, toCsConfiguration, ofCsCapability, ofCsConfiguration};
 ghost use Rattle.codec.specs.Valid.{validFields};
-ghost use Rattle.codec.specs.Writing.{Put, blockIf};
+ghost use Rattle.codec.specs.Writing.{Put, Sized, blockIf};
 ghost use Rattle.codec.specs.Places.{Roomy};
 
 #[repr(C)]
@@ -72,6 +73,15 @@ pub(crate) fn valid_capability(present: bool, v: CsCapability) -> bool
     (v.security_types == 0) & zero_from(&address, 0)
 }
 
+// How many octets the block takes.
+pub(crate) fn size_capability(present: bool, v: CsCapability) -> usize
+    ensures { λ r. ⌜ Sized present csCapability 1 (ofCsCapability v) 9 r ⌝ }
+{
+    let address = v.address;
+    let size = 3 + address_length(&address);
+    if present { size } else { 0 }
+}
+
 // Writes the block where the technology is present.
 pub(crate) fn put_capability(present: bool, v: CsCapability, out: &mut [u8], at: usize) -> usize
     requires { ⌜ at + cond present 9 0 ≤ length (now out) ⌝ }
@@ -95,6 +105,15 @@ pub(crate) fn valid_configuration(present: bool, v: CsConfiguration) -> bool
     }
     let address = v.address;
     (v.security_level == 0) & zero_from(&address, 0)
+}
+
+// How many octets the block takes.
+pub(crate) fn size_configuration(present: bool, v: CsConfiguration) -> usize
+    ensures { λ r. ⌜ Sized present csConfiguration 1 (ofCsConfiguration v) 9 r ⌝ }
+{
+    let address = v.address;
+    let size = 3 + address_length(&address);
+    if present { size } else { 0 }
 }
 
 pub(crate) fn put_configuration(

@@ -1,4 +1,4 @@
-// The message format of Android Ranging out-of-band, version 1: records, and the reader of messages.
+// The message format of Android Ranging out-of-band, version 1: records, their reader and their writer.
 mod blocks;
 mod checks;
 mod cs;
@@ -8,8 +8,11 @@ mod reader;
 mod records;
 mod refusal;
 mod rssi;
+mod technology;
 mod uwb;
+mod valid;
 mod walk;
+mod writer;
 
 pub use cs::CsCapability;
 pub use cs::CsConfiguration;
@@ -20,6 +23,7 @@ pub use records::Capability;
 pub use records::Configuration;
 pub use records::Reading;
 pub use records::Record;
+pub use records::Written;
 pub use rssi::Rssi;
 pub use uwb::Channel;
 pub use uwb::Channels;

@@ -1,6 +1,7 @@
 // Wi-Fi NAN RTT: its two blocks.
 use crate::octets::inside;
 use crate::octets::name_at;
+use crate::octets::name_length;
 use crate::octets::put;
 use crate::octets::put_name;
 use crate::octets::zero_from;
@@ -15,7 +16,7 @@ ghost use Rattle.codec.specs.Layout.{value, fault};
 ghost use Rattle.codec.specs.Blocks.{nanCapability, nanConfiguration};
 ghost use Rattle.codec.specs.Records.{toNanCapability, toNanConfiguration, ofNanCapability, ofNanConfiguration};
 ghost use Rattle.codec.specs.Valid.{validFields};
-ghost use Rattle.codec.specs.Writing.{Put, blockIf};
+ghost use Rattle.codec.specs.Writing.{Put, Sized, blockIf};
 ghost use Rattle.codec.specs.Places.{Roomy};
 
 #[repr(C)]
@@ -103,6 +104,13 @@ pub(crate) fn valid_capability(present: bool, v: NanCapability) -> bool
     (v.features == 0) & ((v.periodic == 0) & ((v.bandwidth == 0) & (v.receive_chains == 0)))
 }
 
+// How many octets the block takes.
+pub(crate) fn size_capability(present: bool, v: NanCapability) -> usize
+    ensures { λ r. ⌜ Sized present nanCapability 2 (ofNanCapability v) 6 r ⌝ }
+{
+    if present { 6 } else { 0 }
+}
+
 // Writes the block where the technology is present.
 pub(crate) fn put_capability(present: bool, v: NanCapability, out: &mut [u8], at: usize) -> usize
     requires { ⌜ at + cond present 6 0 ≤ length (now out) ⌝ }
@@ -131,6 +139,17 @@ pub(crate) fn valid_configuration(present: bool, v: NanConfiguration) -> bool
     }
     let n = v.name_length as usize;
     inside(0, 1, v.role) & (inside(0, 1, v.periodic) & zero_from(&name, n))
+}
+
+// How many octets the block takes.
+pub(crate) fn size_configuration(present: bool, v: NanConfiguration) -> usize
+    requires { ⌜ v .«name_length» ≤ 64 ⌝ }
+    ensures { λ r. ⌜ Sized present nanConfiguration 2 (ofNanConfiguration v) (5 + v .«name_length») r ⌝ }
+{
+    let name = v.name;
+    let n = v.name_length as usize;
+    let size = 5 + name_length(&name, n);
+    if present { size } else { 0 }
 }
 
 pub(crate) fn put_configuration(

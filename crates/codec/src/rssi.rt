@@ -1,5 +1,6 @@
 // RSSI: its block, the same in both messages.
 use crate::octets::address_at;
+use crate::octets::address_length;
 use crate::octets::put;
 use crate::octets::put_address;
 use crate::octets::zero_from;
@@ -11,7 +12,7 @@ ghost use Rattle.codec.specs.Layout.{value};
 ghost use Rattle.codec.specs.Blocks.{rssiBlock};
 ghost use Rattle.codec.specs.Records.{toRssi, ofRssi};
 ghost use Rattle.codec.specs.Valid.{validFields};
-ghost use Rattle.codec.specs.Writing.{Put, blockIf};
+ghost use Rattle.codec.specs.Writing.{Put, Sized, blockIf};
 ghost use Rattle.codec.specs.Places.{Roomy};
 
 #[repr(C)]
@@ -36,6 +37,15 @@ pub(crate) fn valid_block(present: bool, v: Rssi) -> bool
     }
     let address = v.address;
     zero_from(&address, 0)
+}
+
+// How many octets the block takes.
+pub(crate) fn size_block(present: bool, v: Rssi) -> usize
+    ensures { λ r. ⌜ Sized present rssiBlock 3 (ofRssi v) 8 r ⌝ }
+{
+    let address = v.address;
+    let size = 2 + address_length(&address);
+    if present { size } else { 0 }
 }
 
 // Writes the block where the technology is present.

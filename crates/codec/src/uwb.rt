@@ -1,7 +1,9 @@
 // UWB: its two blocks. Channel, preamble index and config ID are kinds of their own, and so are sets of them.
 use crate::octets::inside;
 use crate::octets::key_at;
+use crate::octets::key_length;
 use crate::octets::pair_at;
+use crate::octets::pair_length;
 use crate::octets::put;
 use crate::octets::put_key;
 use crate::octets::put_pair;
@@ -23,7 +25,7 @@ ghost use Rattle.codec.specs.Layout.{member, inside, alphabetic, test, z
 ghost use Rattle.codec.specs.Blocks.{interval, uwbCapability, uwbConfiguration, uwbAfterKey};
 ghost use Rattle.codec.specs.Records.{toUwbCapability, toUwbConfiguration, ofUwbCapability, ofUwbConfiguration};
 ghost use Rattle.codec.specs.Valid.{validFields};
-ghost use Rattle.codec.specs.Writing.{Put, blockIf, setOctets, beforeKey, afterKey};
+ghost use Rattle.codec.specs.Writing.{Put, Sized, blockIf, setOctets, beforeKey, afterKey};
 ghost use Rattle.codec.specs.Places.{Roomy};
 
 #[repr(C)]
@@ -203,6 +205,15 @@ pub(crate) fn valid_capability(present: bool, v: UwbCapability) -> bool
                     & ((v.shortest_interval == 0) & ((v.shortest_slot == 0) & (v.roles == 0))))))
 }
 
+// How many octets the block takes.
+pub(crate) fn size_capability(present: bool, v: UwbCapability) -> usize
+    ensures { λ r. ⌜ Sized present uwbCapability 0 (ofUwbCapability v) 20 r ⌝ }
+{
+    let address = v.address;
+    let size = 18 + pair_length(&address);
+    if present { size } else { 0 }
+}
+
 // Writes the sets of channels, preamble indexes and config IDs.
 fn put_sets(v: UwbCapability, out: &mut [u8], at: usize) -> usize
     requires { ⌜ at + 12 ≤ length (now out) ⌝ }
@@ -270,6 +281,19 @@ pub(crate) fn valid_configuration(present: bool, v: UwbConfiguration) -> bool
     let k = v.key_length as usize;
     let last = inside(1, 2, v.role) & (inside(1, 2, v.mode) & zero_key(&key, k));
     allowed_interval(v.interval) & (inside(1, 2, v.slot) & (letters(country) & last))
+}
+
+pub(crate) fn size_configuration(present: bool, v: UwbConfiguration) -> usize
+    requires { ⌜ v .«key_length» ≤ 32 ⌝ }
+    ensures { λ r. ⌜ Sized present uwbConfiguration 0 (ofUwbConfiguration v) (19 + v .«key_length») r ⌝ }
+{
+    let address = v.address;
+    let key = v.key;
+    let country = v.country;
+    let k = v.key_length as usize;
+    let fixed = 15 + pair_length(&address) + pair_length(&country);
+    let size = fixed + key_length(&key, k);
+    if present { size } else { 0 }
 }
 
 // Writes the fields after the address and before the key.

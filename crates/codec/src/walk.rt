@@ -5,31 +5,15 @@ use crate::octets::u16_at;
 use crate::refusal::BLOCK_TOO_SMALL;
 use crate::refusal::ENDS_EARLY;
 use crate::refusal::WRONG_BLOCK;
+use crate::technology::has;
+use crate::technology::with;
 ghost use mathlib.Core.Path.{_≡_};
-ghost use Prim.Native.Nat.{ℕ, _+_, _≤_, _<_};
+ghost use Prim.Native.Nat.{_≤_};
 ghost use lib.ListN.{length};
 ghost use Rattle.codec.specs.Refusal.{numberIn};
 ghost use Rattle.codec.specs.Technology.{bit};
-ghost use Rattle.codec.specs.Message.{messageLimit, also, blockFault, walk};
+ghost use Rattle.codec.specs.Message.{messageLimit, blockFault, walk};
 ghost use Rattle.codec.specs.Places.{note, Finds};
-
-// Whether a set has the bit of an ID.
-fn has(set: u16, id: u8) -> bool
-    ensures { λ r. ⌜ r ≡ bit set id ⌝ }
-{
-    if id < 16 {
-        return (set >> id) % 2 == 1;
-    }
-    false
-}
-
-// The set with the bit of an ID.
-fn with(set: u16, id: u8) -> u16
-    requires { ⌜ id < 16 ⌝ }
-    ensures { λ r. ⌜ ((j : ℕ) → bit r j ≡ also id (bit set) j) ⌝ }
-{
-    set | (1 << id)
-}
 
 // The first fault of the block at a place, 0 for none. `met` has a bit for each ID that came before.
 fn block_fault(m: &[u8], at: usize, met: u16) -> u8

@@ -17,7 +17,7 @@ use Rattle.codec.proofs.walk.walk.Kinds as walk-kinds
 use Rattle.codec.proofs.walk.+walk.Lts-walk as walk-lts
 use Rattle.codec.proofs.walk.block_fault.Reads as block-fault-reads
 use Rattle.codec.proofs.walk.note.Reads as note-reads
-use Rattle.codec.proofs.walk.with.Reads as with-reads
+use Rattle.codec.proofs.technology.with.Reads as with-reads
 use Rattle.codec.proofs.walk.+walk.{statement}
 use Rattle.codec.proofs.walk.+walk.Tie.{close}
 

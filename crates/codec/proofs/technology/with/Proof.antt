@@ -1,7 +1,7 @@
 use Rattle.codec.proofs.Bits.{bit-with}
 use borrow.Author.Needs.{needs}
-use Rattle.codec.proofs.walk.with.Statement.{statement}
-use Rattle.codec.proofs.walk.with.Tie as tie
+use Rattle.codec.proofs.technology.with.Statement.{statement}
+use Rattle.codec.proofs.technology.with.Tie as tie
 
 shl-result : tie.Need-shl-result
 shl-result c = search needs

@@ -1,8 +1,8 @@
 use Rattle.codec.proofs.Bits.{bit-above}
 use mathlib.Core.Path.{sym}
 use borrow.Author.Needs.{needs}
-use Rattle.codec.proofs.walk.has.Statement.{statement}
-use Rattle.codec.proofs.walk.has.Tie as tie
+use Rattle.codec.proofs.technology.has.Statement.{statement}
+use Rattle.codec.proofs.technology.has.Tie as tie
 
 shr-result : tie.Need-shr-result
 shr-result c = search needs

@@ -1,0 +1,35 @@
+// Sets of technologies: a 16-bit number with bit n for ID n.
+ghost use mathlib.Core.Path.{_≡_};
+ghost use mathlib.Core.Bool.{cond};
+ghost use Prim.Native.Nat.{ℕ, _<_};
+ghost use lib.Dec.{eqb};
+ghost use Rattle.codec.specs.Technology.{bit};
+ghost use Rattle.codec.specs.Message.{also};
+
+// Whether a set has the bit of an ID.
+pub(crate) fn has(set: u16, id: u8) -> bool
+    ensures { λ r. ⌜ r ≡ bit set id ⌝ }
+{
+    if id < 16 {
+        return (set >> id) % 2 == 1;
+    }
+    false
+}
+
+// The set with the bit of an ID.
+pub(crate) fn with(set: u16, id: u8) -> u16
+    requires { ⌜ id < 16 ⌝ }
+    ensures { λ r. ⌜ ((j : ℕ) → bit r j ≡ also id (bit set) j) ⌝ }
+{
+    set | (1 << id)
+}
+
+// A record's set if it is of this message, and else the empty one.
+pub(crate) fn set_in(message: u8, id: u8, set: u16) -> u16
+    ensures { λ r. ⌜ r ≡ cond (eqb id message) set 0 ⌝ }
+{
+    if id == message {
+        return set;
+    }
+    0
+}

@@ -1,0 +1,55 @@
+// Validity of a record, which the writer tests first.
+use crate::cs;
+use crate::nan;
+use crate::records::Capability;
+use crate::records::Configuration;
+use crate::records::Record;
+use crate::rssi;
+use crate::technology::has;
+use crate::technology::set_in;
+use crate::uwb;
+ghost use mathlib.Core.Path.{_≡_};
+ghost use Rattle.codec.specs.Message.{assigned};
+ghost use Rattle.codec.specs.Records.{capabilities, configurations};
+ghost use Rattle.codec.specs.Valid.{validColumn, valid};
+
+fn assigned(id: u8) -> bool
+    ensures { λ r. ⌜ r ≡ assigned id ⌝ }
+{
+    match id {
+        0..=3 | 6..=7 => true,
+        4..=5 | 8..=255 => false,
+    }
+}
+
+// Whether the fields of the technologies in a set are allowed, and all others zero.
+fn valid_capability(set: u16, c: Capability) -> bool
+    ensures { λ r. ⌜ r ≡ validColumn capabilities set c ⌝ }
+{
+    let uwb = uwb::valid_capability(has(set, 0), c.uwb);
+    let cs = cs::valid_capability(has(set, 1), c.cs);
+    let nan = nan::valid_capability(has(set, 2), c.nan);
+    let rssi = rssi::valid_block(has(set, 3), c.rssi);
+    uwb & (cs & (nan & rssi))
+}
+
+fn valid_configuration(set: u16, c: Configuration) -> bool
+    ensures { λ r. ⌜ r ≡ validColumn configurations set c ⌝ }
+{
+    let uwb = uwb::valid_configuration(has(set, 0), c.uwb);
+    let cs = cs::valid_configuration(has(set, 1), c.cs);
+    let nan = nan::valid_configuration(has(set, 2), c.nan);
+    let rssi = rssi::valid_block(has(set, 3), c.rssi);
+    uwb & (cs & (nan & rssi))
+}
+
+pub(crate) fn valid(value: Record) -> bool
+    ensures { λ r. ⌜ r ≡ valid value ⌝ }
+{
+    if !(assigned(value.id) & (value.set < 16)) {
+        return false;
+    }
+    let capability = valid_capability(set_in(1, value.id, value.set), value.capability);
+    let configuration = valid_configuration(set_in(2, value.id, value.set), value.configuration);
+    capability & configuration
+}
