@@ -3,7 +3,7 @@ use Prim.Native.Nat.{ℕ, zero, suc, _+_, _-_, _*_, _/_, _%_, _^_, _≤_, _<_}
 use native.Mathlib.Omega.{arith}
 use native.Mathlib.Nat.{pow-suc}
 use mathlib.Core.Path.{_≡_, refl, sym, ap, _∙_}
-use mathlib.Core.Bool.{Bool, true, false, _&&_}
+use mathlib.Core.Bool.{true, _&&_}
 use mathlib.Core.List.{List, [], _∷_, _++_, append-assoc, append-nil}
 use lib.Dec.{eqb}
 use lib.ListN.{length, getD, take, drop, replicate, length-append, length-drop, length-replicate, take-append-drop}
@@ -107,12 +107,12 @@ zeroed-only (counted y x t c ∷ L) v h e =
 
 -- a counted field that is allowed, taken apart
 module _ {C : Type 0} (t : Test) (c : ℕ) (L : Layout) where
-  counted-apart : (within t c && fits L) ≡ true → (n : ℕ) (l : List ℕ) (v : Values L) → n < 256 → length l ≡ c → (test t n && allowed L v) ≡ true
+  counted-apart : (within t c && fits L) ≡ true → (n : ℕ) (l : List ℕ) (v : Values L) → length l ≡ c → (test t n && allowed L v) ≡ true
       → (fits L ≡ true → n ≤ c → length (take n l) ≡ n → allowed L v ≡ true → C) → C
-  counted-apart f n l v b e a k =
+  counted-apart f n l v e a k =
       let g = and-true (within t c) (fits L) f in
       let p = and-true (test t n) (allowed L v) a in
-      let m : n ≤ c = within-le t c n b (g .0) (p .0) in
+      let m : n ≤ c = within-le t c n (g .0) (p .0) in
       k (g .1) m (length-take-le n l (omega arith)) (p .1)
 
 pub back : (L : Layout) → fits L ≡ true → (at : ℕ) (v : Values L) (s r : List ℕ) → at ≤ length s → Typed L v → allowed L v ≡ true → cleared L v ≡ true → drop at s ≡ write L v ++ r
@@ -132,7 +132,7 @@ back (octets x n t ∷ L) f at v s r u h a k e =
     let m = back L f (at + n) (v .1) s r (room at n s (v .0) q u e₁ (h .0)) (h .1 .1) (and-true (spelled t (v .0)) (allowed L (v .1)) a .1) k (after at n s (v .0) q e₁ (h .0)) in
     ((λ i. (p i, m .0 i)), simp length-append (omega (arith, m .1, h .0)))
 back (counted y x t c ∷ L) f at v s r u h a k e =
-    counted-apart t c L f (v .0) (v .1 .0) (v .1 .1) (h .0) (h .1 .0) a λ g b n a₁.
+    counted-apart t c L f (v .0) (v .1 .0) (v .1 .1) (h .1 .0) a λ g b n a₁.
     let z = and-true (allZero (drop (v .0) (v .1 .0))) (cleared L (v .1 .1)) k in
     let o = take (v .0) (v .1 .0) in
     let q = write L (v .1 .1) ++ r in
@@ -169,7 +169,7 @@ forth (counted y x t c ∷ L) f at s o h a =
     let g = and-true (within t c) (fits L) f in
     let k = getD s at 0 in
     let p = and-true (test t k) (allowed L (value L (at + 1 + k) s)) a in
-    let b : k ≤ c = within-le t c k (o at) (g .0) (p .0) in
+    let b : k ≤ c = within-le t c k (g .0) (p .0) in
     let m = forth L (g .1) (at + 1 + k) s o h (p .1) in
     let W = write L (value L (at + 1 + k) s) in
     let d = part (at + 1) k s in

@@ -10,12 +10,11 @@ use lib.Seq.{getD-set-same, getD-set-other}
 use borrow.Author.Tests.{eqb-true, eqb-false, ne-eqb, lt-ltb, not-true, leb-true, leb-false}
 use Rattle.codec.specs.Refusal.{Checked, refuse, accept, andThen, numberIn, tooLong, endsEarly, reservedId, wrongVersion, setsDiffer}
 use Rattle.codec.specs.Octets.{Octets}
-use Rattle.codec.specs.Layout.{Layout, Values, zeroes, value}
+use Rattle.codec.specs.Layout.{Layout, zeroes, value}
 use Rattle.codec.specs.Technology.{bit, known}
 use Rattle.codec.specs.Message.{messageLimit, versionOf, idOf, assigned, readable, setsAgree, blockCount, setOf, blocksAt, carriesBlocks, layoutsOf, blockAt, also, noId, blockFault, Walked, prepend, walk, endFault, blocksFrom, body, parse, fieldsIn, columnOf, recordOf, reading}
 use Rattle.codec.specs.Places.{Roomy, note, noted, blockOrZeros, Placed, recordAt, columnAt}
 use Rattle.codec.specs.Records.{blank, capabilities, configurations, answer, accepted, refused}
-use Rattle.codec.proofs.Laws.{octets-part}
 use Rattle.codec.proofs.Outcomes.{by-bool, and-true, or-false, demanded, chained}
 use Rattle.codec.proofs.BlockCases.{no-fields}
 use Rattle.codec.proofs.Layouts.{block, block-fits, block-zeros, roomy}
@@ -54,7 +53,7 @@ module _ (m : List ℕ) (o : Octets m) (id : ℕ) (known : id < 4) where
     there = z;
     two = s .two;
     whole = s .whole;
-    roomy = roomy L (block-fits (eqb (idOf m) 1) id) 2 (blockAt m at) (octets-part at (getD m (at + 1) 0) m o) (rw (s .size, ← e) (s .enough)) (rw (← e) (s .fields));
+    roomy = roomy L (block-fits (eqb (idOf m) 1) id) 2 (blockAt m at) (rw (s .size, ← e) (s .enough)) (rw (← e) (s .fields));
   }
 
   -- where blocks that lie from a place on are noted: as before, if none is this technology's, or where its one block stands

@@ -1,5 +1,5 @@
 -- The laws of every layout, and that the blocks' layouts keep what they rest on.
-use Prim.Native.Nat.{ℕ, zero, suc, _+_, _≤_, _<_}
+use Prim.Native.Nat.{ℕ, zero, suc, _+_, _≤_}
 use native.Mathlib.Omega.{arith}
 use mathlib.Core.Path.{_≡_, refl}
 use mathlib.Core.Bool.{Bool, true, false, _&&_, cond}
@@ -8,7 +8,7 @@ use lib.Dec.{leb, eqb}
 use lib.ListN.{length, getD, replicate}
 use borrow.Author.Tests.{le-leb, leb-true, eqb-true}
 use Rattle.codec.specs.Refusal.{accept, notAllowed, blockTooSmall}
-use Rattle.codec.specs.Octets.{Octets, part, ofLE}
+use Rattle.codec.specs.Octets.{part, ofLE}
 use Rattle.codec.specs.Layout.{Test, any, oneOf, between, Layout, number, octets, counted, member, inside, test, spelled, zeroes, allowed, value, need, least, fault}
 use Rattle.codec.specs.Blocks.{capabilityBlock, configurationBlock}
 use Rattle.codec.specs.Places.{Roomy}
@@ -17,7 +17,7 @@ use Rattle.codec.proofs.Outcomes.{and-true, or-true, demanded}
 -- ---- a layout whose counted octets fit their arrays
 
 abbrev pub within : Test → ℕ → Bool
-within any c = leb 255 c
+within any c = false
 within (oneOf []) c = true
 within (oneOf (y ∷ l)) c = leb y c && within (oneOf l) c
 within (between low high) c = leb high c
@@ -28,14 +28,14 @@ fits (number x w t ∷ L) = fits L
 fits (octets x n t ∷ L) = fits L
 fits (counted y x t c ∷ L) = within t c && fits L
 
-pub within-le : (t : Test) (c k : ℕ) → k < 256 → within t c ≡ true → test t k ≡ true → k ≤ c
+pub within-le : (t : Test) (c k : ℕ) → within t c ≡ true → test t k ≡ true → k ≤ c
 unfolding member inside
-within-le any c k b e h = omega (arith, leb-true 255 c e)
-within-le (oneOf []) c k b e h = let z : _≡_ {A = ℕ} 0 1 = cc in absurd (omega arith)
-within-le (oneOf (y ∷ l)) c k b e h =
+within-le any c k e h = let z : _≡_ {A = ℕ} 0 1 = cc in absurd (omega arith)
+within-le (oneOf []) c k e h = let z : _≡_ {A = ℕ} 0 1 = cc in absurd (omega arith)
+within-le (oneOf (y ∷ l)) c k e h =
     let w = and-true (leb y c) (within (oneOf l) c) e in
-    or-true (eqb k y) (member l k) h (λ q. omega (arith, eqb-true k y q, leb-true y c (w .0))) (λ q. within-le (oneOf l) c k b (w .1) q)
-within-le (between low high) c k b e h = omega (arith, leb-true high c e, leb-true k high (and-true (leb low k) (leb k high) h .1))
+    or-true (eqb k y) (member l k) h (λ q. omega (arith, eqb-true k y q, leb-true y c (w .0))) (λ q. within-le (oneOf l) c k (w .1) q)
+within-le (between low high) c k e h = omega (arith, leb-true high c e, leb-true k high (and-true (leb low k) (leb k high) h .1))
 
 -- ---- sizes
 
@@ -46,15 +46,15 @@ least-from (octets x n t ∷ L) at = omega (arith, least-from L (at + n))
 least-from (counted y x t c ∷ L) at = omega arith
 
 -- a block without a fault reaches past its last field
-pub roomy : (L : Layout) → fits L ≡ true → (at : ℕ) (s : List ℕ) → Octets s → least L at ≤ length s → fault L at s ≡ accept tt → Roomy L at s
-roomy [] f at s o h e = h
-roomy (number x w t ∷ L) f at s o h e = demanded (test t (ofLE w at s)) notAllowed _ tt e λ y e₁. roomy L f (at + w) s o h e₁
-roomy (octets x n t ∷ L) f at s o h e = demanded (spelled t (part at n s)) notAllowed _ tt e λ y e₁. roomy L f (at + n) s o h e₁
-roomy (counted y x t c ∷ L) f at s o h e =
+pub roomy : (L : Layout) → fits L ≡ true → (at : ℕ) (s : List ℕ) → least L at ≤ length s → fault L at s ≡ accept tt → Roomy L at s
+roomy [] f at s h e = h
+roomy (number x w t ∷ L) f at s h e = demanded (test t (ofLE w at s)) notAllowed _ tt e λ y e₁. roomy L f (at + w) s h e₁
+roomy (octets x n t ∷ L) f at s h e = demanded (spelled t (part at n s)) notAllowed _ tt e λ y e₁. roomy L f (at + n) s h e₁
+roomy (counted y x t c ∷ L) f at s h e =
     let g = and-true (within t c) (fits L) f in
     demanded (test t (getD s at 0)) notAllowed _ tt e λ a e₁.
     demanded (leb (least L (at + 1 + getD s at 0)) (length s)) blockTooSmall _ tt e₁ λ z e₂.
-    (within-le t c (getD s at 0) (o at) (g .0) a, roomy L (g .1) (at + 1 + getD s at 0) s o (leb-true _ _ z) e₂)
+    (within-le t c (getD s at 0) (g .0) a, roomy L (g .1) (at + 1 + getD s at 0) s (leb-true _ _ z) e₂)
 
 pub need-from : (L : Layout) (at : ℕ) (s : List ℕ) → at ≤ need L at s
 need-from [] at s = omega arith

@@ -10,6 +10,7 @@ pub mod Columns
 pub mod WalkCases
 pub mod MessageCases
 pub mod ValidCases
+pub mod Pieces
 pub mod Found
 pub mod Exact
 pub mod ReadBack

@@ -10,11 +10,13 @@ use Rattle.codec.specs.Refusal.{Checked, refuse, accept, demand, numberO
 use Rattle.codec.specs.Layout.{Layout, Values}
 use Rattle.codec.specs.Blocks.{uwbAfterKey}
 use Rattle.codec.specs.Technology.{bit}
-use Rattle.codec.specs.Records.{Column}
+use Rattle.codec.specs.Records.{Column, capabilities, configurations}
 use Rattle.codec.specs.Valid.{valid}
 use Rattle.codec.specs.NormalForm.{block, normal}
 use Rattle.codec.specs.declared.uwb.UwbCapability.{UwbCapability}
 use Rattle.codec.specs.declared.uwb.UwbConfiguration.{UwbConfiguration}
+use Rattle.codec.specs.declared.records.Capability.{Capability}
+use Rattle.codec.specs.declared.records.Configuration.{Configuration}
 use Rattle.codec.specs.declared.records.Record.{Record}
 use Rattle.codec.specs.declared.records.Written.{Written}
 
@@ -83,6 +85,24 @@ columnOctets C set a =
     ++ (blockIf (bit set 2) (C .layouts 2) 2 (C .fields a 2)
     ++ blockIf (bit set 3) (C .layouts 3) 3 (C .fields a 3)))
 
--- how many octets the blocks of a set take, where each technology's takes so many
-abbrev pub sizes : ℕ → ℕ → ℕ → ℕ → ℕ → ℕ
-sizes set uwb cs nan rssi = cond (bit set 0) uwb 0 + (cond (bit set 1) cs 0 + (cond (bit set 2) nan 0 + cond (bit set 3) rssi 0))
+-- how long the block of each technology is, if it is there
+pub record Long {A : Type 0} (C : Column A) (set : ℕ) (a : A) (u c n s : ℕ) : Type 0 where
+  pub uwb : length (blockIf (bit set 0) (C .layouts 0) 0 (C .fields a 0)) ≡ cond (bit set 0) u 0
+  pub cs : length (blockIf (bit set 1) (C .layouts 1) 1 (C .fields a 1)) ≡ cond (bit set 1) c 0
+  pub nan : length (blockIf (bit set 2) (C .layouts 2) 2 (C .fields a 2)) ≡ cond (bit set 2) n 0
+  pub rssi : length (blockIf (bit set 3) (C .layouts 3) 3 (C .fields a 3)) ≡ cond (bit set 3) s 0
+
+abbrev pub LongCapability : ℕ → Capability → Type 0
+LongCapability set c = Long capabilities set c 20 9 6 8
+
+abbrev pub LongConfiguration : ℕ → Configuration → Type 0
+LongConfiguration set c = Long configurations set c (19 + c .uwb .«key_length») 9 (5 + c .nan .«name_length») 8
+
+-- the key and the name of a Configuration fit their arrays
+abbrev pub Fit : Configuration → Type 0
+Fit c = (c .uwb .«key_length» ≤ 32) × (c .nan .«name_length» ≤ 64)
+
+-- how long the blocks of a record's message are
+pub record LongRecord (r : Record) : Type 0 where
+  pub capability : r .id ≡ 1 → LongCapability (r .set) (r .capability)
+  pub configuration : r .id ≡ 2 → LongConfiguration (r .set) (r .configuration)

@@ -33,3 +33,4 @@ pub use uwb::PreambleIndex;
 pub use uwb::PreambleIndexes;
 pub use uwb::UwbCapability;
 pub use uwb::UwbConfiguration;
+pub use writer::write;

@@ -1,1 +1,119 @@
-// The writer.
+// The writer: the normal form of a valid record, into the first octets of a lent buffer.
+use crate::cs;
+use crate::nan;
+use crate::octets::put;
+use crate::octets::put_u16;
+use crate::records::Capability;
+use crate::records::Configuration;
+use crate::records::Record;
+use crate::records::Written;
+use crate::refusal::BUFFER_TOO_SHORT;
+use crate::refusal::NOT_VALID;
+use crate::rssi;
+use crate::technology::has;
+use crate::uwb;
+use crate::valid::valid;
+ghost use mathlib.Core.Path.{_≡_};
+ghost use Prim.Native.Nat.{_+_, _≤_};
+ghost use lib.ListN.{length};
+ghost use Rattle.codec.specs.Records.{capabilities, configurations};
+ghost use Rattle.codec.specs.NormalForm.{normal};
+ghost use Rattle.codec.specs.Writing.{Writes, Put, columnOctets, LongCapability, LongConfiguration, LongRecord, Fit};
+
+// How many octets the blocks of a set take in message 1.
+fn size_capability(set: u16, c: Capability) -> usize
+    ensures { λ r. ⌜ (r ≡ length (columnOctets capabilities set c)) × (r ≤ 43) × LongCapability set c ⌝ }
+{
+    let uwb = uwb::size_capability(has(set, 0), c.uwb);
+    let cs = cs::size_capability(has(set, 1), c.cs);
+    let nan = nan::size_capability(has(set, 2), c.nan);
+    let rssi = rssi::size_block(has(set, 3), c.rssi);
+    uwb + (cs + (nan + rssi))
+}
+
+// How many octets the blocks of a set take in message 2.
+fn size_configuration(set: u16, c: Configuration) -> usize
+    requires { ⌜ Fit c ⌝ }
+    ensures { λ r. ⌜ (r ≡ length (columnOctets configurations set c)) × (r ≤ 137) × LongConfiguration set c ⌝ }
+{
+    let uwb = uwb::size_configuration(has(set, 0), c.uwb);
+    let cs = cs::size_configuration(has(set, 1), c.cs);
+    let nan = nan::size_configuration(has(set, 2), c.nan);
+    let rssi = rssi::size_block(has(set, 3), c.rssi);
+    uwb + (cs + (nan + rssi))
+}
+
+// How many octets a record's normal form takes.
+fn size_message(value: Record) -> usize
+    requires { ⌜ Fit (value .configuration) ⌝ }
+    ensures { λ r. ⌜ (r ≡ length (normal value)) × LongRecord value ⌝ }
+{
+    if value.id == 1 {
+        return 4 + size_capability(value.set, value.capability);
+    }
+    if value.id == 2 {
+        return 6 + size_configuration(value.set, value.configuration);
+    }
+    4
+}
+
+// Writes the blocks of a set in message 1.
+fn put_capability(set: u16, c: Capability, out: &mut [u8], at: usize) -> usize
+    requires { ⌜ (at + length (columnOctets capabilities set c) ≤ length (now out)) × LongCapability set c ⌝ }
+    ensures { λ r. ⌜ Put (now (out .entry)) at (columnOctets capabilities set c) (now (out .exit)) r ⌝ }
+{
+    let cs = uwb::put_capability(has(set, 0), c.uwb, out, at);
+    let nan = cs::put_capability(has(set, 1), c.cs, out, cs);
+    let rssi = nan::put_capability(has(set, 2), c.nan, out, nan);
+    rssi::put_block(has(set, 3), c.rssi, out, rssi)
+}
+
+// Writes the blocks of a set in message 2.
+fn put_configuration(set: u16, c: Configuration, out: &mut [u8], at: usize) -> usize
+    requires { ⌜ (at + length (columnOctets configurations set c) ≤ length (now out)) × LongConfiguration set c × Fit c ⌝ }
+    ensures { λ r. ⌜ Put (now (out .entry)) at (columnOctets configurations set c) (now (out .exit)) r ⌝ }
+{
+    let cs = uwb::put_configuration(has(set, 0), c.uwb, out, at);
+    let nan = cs::put_configuration(has(set, 1), c.cs, out, cs);
+    let rssi = nan::put_configuration(has(set, 2), c.nan, out, nan);
+    rssi::put_block(has(set, 3), c.rssi, out, rssi)
+}
+
+// Writes a record's normal form.
+fn put_message(value: Record, out: &mut [u8]) -> usize
+    requires { ⌜ (length (normal value) ≤ length (now out)) × LongRecord value × Fit (value .configuration) ⌝ }
+    ensures { λ r. ⌜ Put (now (out .entry)) 0 (normal value) (now (out .exit)) r ⌝ }
+{
+    let id = put(out, 0, 1);
+    let set = put(out, id, value.id);
+    let next = put_u16(out, set, value.set);
+    if value.id == 1 {
+        return put_capability(value.set, value.capability, out, next);
+    }
+    if value.id == 2 {
+        let blocks = put_u16(out, next, value.set);
+        return put_configuration(value.set, value.configuration, out, blocks);
+    }
+    next
+}
+
+// Writes a record: a record that is not valid and then a buffer that is too short are refused, and the buffer stays.
+pub fn write(value: Record, out: &mut [u8]) -> Written
+    ensures { λ r. ⌜ Writes value (now (out .entry)) r (now (out .exit)) ⌝ }
+{
+    if !valid(value) {
+        return Written {
+            refusal: NOT_VALID,
+            length: 0,
+        };
+    }
+    let length = size_message(value);
+    if out.len() < length {
+        return Written {
+            refusal: BUFFER_TOO_SHORT,
+            length: 0,
+        };
+    }
+    put_message(value, out);
+    Written { refusal: 0, length }
+}
