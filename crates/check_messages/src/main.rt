@@ -1,6 +1,9 @@
 // Reads the messages that the rules give to check, and some for what is easy to get wrong, and prints a line for each:
-// what it is, and the reader's answer.
+// what it is, the reader's answer, and whether an accepted message comes back when its record is written.
 use libc::STDOUT_FILENO;
+ghost use mathlib.Core.Path.{_≡_};
+ghost use lib.ListN.{length};
+ghost use Rattle.check_messages.specs.Same.{starts};
 
 fn print(text: &[u8]) {
     io::write_all(STDOUT_FILENO, text);
@@ -24,7 +27,40 @@ fn print_set(set: u16) {
     }
 }
 
-// "NAME: refused 9", or "NAME: message 0: UWB RSSI".
+// Whether a message stands at the start of a buffer.
+fn starts(message: &[u8], out: &[u8]) -> bool
+    ensures { λ r. ⌜ r ≡ starts (now (message .entry)) (now (out .entry)) ⌝ }
+{
+    let mut i = 0;
+    while i < message.len() {
+        if i >= out.len() {
+            return false;
+        }
+        if message[i] != out[i] {
+            return false;
+        }
+        i += 1;
+    }
+    true
+}
+
+// Writes the record again: the same octets, if the message was in normal form.
+fn print_written(message: &[u8], value: codec::Record) {
+    let mut out = [0u8; 256];
+    let written = codec::write(value, &mut out);
+    if written.refusal != 0 {
+        print(b", not written: ");
+        io::print_decimal(STDOUT_FILENO, written.refusal as u64);
+    } else if written.length == message.len() && starts(message, &out) {
+        print(b", unchanged");
+    } else {
+        print(b", changed to ");
+        io::print_decimal(STDOUT_FILENO, written.length as u64);
+        print(b" octets");
+    }
+}
+
+// "NAME: refused 9", or "NAME: message 0: UWB RSSI, unchanged".
 fn check(name: &[u8], message: &[u8]) {
     let reading = codec::read(message);
     print(name);
@@ -37,6 +73,7 @@ fn check(name: &[u8], message: &[u8]) {
         io::print_decimal(STDOUT_FILENO, value.id as u64);
         print(b":");
         print_set(value.set);
+        print_written(message, value);
     }
     print(b"\n");
 }
@@ -124,6 +161,47 @@ fn order() {
     );
 }
 
+// In normal form, without blocks.
+fn normal_heads() {
+    check(b"Capability Request for all", b"\x01\x00\x0F\x00");
+    check(b"Capability Response of none", b"\x01\x01\x00\x00");
+    check(b"Configuration Response", b"\x01\x03\x08\x00");
+    check(b"Stop", b"\x01\x06\x09\x00");
+    check(b"Stop Response", b"\x01\x07\x08\x00");
+}
+
+// In normal form, with one block each.
+fn normal_blocks() {
+    check(
+        b"Capability Response of UWB",
+        b"\x01\x01\x01\x00\x00\x14\xA1\xA2\x20\x02\x00\x00\x00\x0F\x00\x00\x03\x00\x00\x00\xF0\x00\x01\x03",
+    );
+    check(
+        b"Capability Response of CS",
+        b"\x01\x01\x02\x00\x01\x09\x1F\xB1\xB2\xB3\xB4\xB5\xB6",
+    );
+    check(
+        b"Capability Response of NAN",
+        b"\x01\x01\x04\x00\x02\x06\x07\x01\x02\x03",
+    );
+    check(
+        b"Capability Response of RSSI",
+        b"\x01\x01\x08\x00\x03\x08\xA1\xA2\xA3\xA4\xA5\xA6",
+    );
+    check(
+        b"Configuration of UWB, 16 key octets",
+        b"\x01\x02\x01\x00\x01\x00\x00\x23\xA1\xA2\x78\x56\x34\x12\x01\x09\x0B\x60\x00\x01\x10KEYKEYKEYKEYKEYKSE\x01\x02",
+    );
+    check(
+        b"Configuration of NAN",
+        b"\x01\x02\x04\x00\x04\x00\x02\x09\x04LENT\x00\x01",
+    );
+    check(
+        b"Configuration of RSSI",
+        b"\x01\x02\x08\x00\x08\x00\x03\x08\xC1\xC2\xC3\xC4\xC5\xC6",
+    );
+}
+
 // All four technologies.
 fn full() {
     check(
@@ -142,5 +220,7 @@ fn main() {
     lengths();
     not_normal();
     order();
+    normal_heads();
+    normal_blocks();
     full();
 }
