@@ -1,47 +1,35 @@
 use Rattle.codec.specs.Records.{ofCsCapability}
 use Rattle.codec.specs.Blocks.{csCapability}
 use Rattle.codec.proofs.Puts.{put-then, put-last, put-block, put-absent, room-present}
-use lib.ListN.{length, take, length-append}
-use mathlib.Core.List.{List, [], _∷_, _++_, append-assoc}
-use mathlib.Core.Path.{_≡_}
+use lib.ListN.{length, length-append}
+use mathlib.Core.List.{[]}
 use native.Mathlib.Omega.{arith}
-use Prim.Native.Nat.{ℕ, _+_, _≤_}
+use Prim.Native.Nat.{_+_, _≤_}
 use borrow.Author.Needs.{needs}
 use Rattle.codec.proofs.cs.put_capability.Statement.{statement}
 use Rattle.codec.proofs.cs.put_capability.Tie as tie
-use Rattle.codec.proofs.cs.put_capability.Reads as reads
-use Rattle.codec.proofs.cs.put_capability.Lts as lts
-use Rattle.codec.proofs.octets.put.Reads as put-reads
-use Rattle.codec.proofs.octets.put_address.Reads as put-address-reads
 
 room : (c : tie.Else1) → let s = c .before .before in s .args .at + 9 ≤ length (s .args .out .now)
 room c = room-present (c .before .before .args .present) 9 _ (c .before .before .args .at) (c .if1 .left) (c .before .before .pre)
 
--- src/cs.rt:81:9
 returns : tie.Need-returns
 returns c = put-absent (c .before .before .args .present) (c .before .before .args .out .now) (c .before .before .args .at) _ csCapability 1 (ofCsCapability (c .before .before .args .v)) (c .if1 .taken) (c .before .before .pre)
 
--- src/cs.rt:84:9
 put-requires : tie.Need-put-requires
 put-requires c κs = omega (arith, room (c .before .before))
 
--- src/cs.rt:85:9
 put-requires-2 : tie.Need-put-requires-2
 put-requires-2 c κs = omega (arith, room (c .before .before .before .before .before .before))
 
--- src/cs.rt:86:9
 put-requires-3 : tie.Need-put-requires-3
 put-requires-3 c κs = omega (arith, room (c .before .before .before .before .before .before .before .before .before .before))
 
--- src/cs.rt:87:5
 put-address-requires : tie.Need-put-address-requires
 put-address-requires c κs = omega (arith, room (c .before .before .before .before .before .before .before .before .before .before .before .before .before .before .before))
 
--- src/cs.rt:76:1
 same-length : tie.Need-same-length
 same-length c = search needs
 
--- src/cs.rt:76:1
 returns-2 : tie.Need-returns-2
 returns-2 c =
     put-block (c .before .before .before .before .before .before .before .before .before .before .before .before .before .before .before .before .before .before .before .before .args .present) csCapability 1 9 (ofCsCapability (c .before .before .before .before .before .before .before .before .before .before .before .before .before .before .before .before .before .before .before .before .args .v)) (c .before .before .before .before .before .before .before .before .before .before .before .before .before .before .before .before .before .before .if1 .left) (omega (arith, length-append (c .before .before .before .before .before .before .before .before .before .before .before .before .before .before .before .before .before .before .before .before .args .v .address) [], c .before .before .put-address .ensures .1))

@@ -1,5 +1,3 @@
-use Rattle.codec.specs.Blocks.{csCapability, csConfiguration}
-use Rattle.codec.specs.Records.{ofCsCapability, ofCsConfiguration}
 use Rattle.codec.proofs.Puts.{sized}
 use lib.ListN.{length-append}
 use native.Mathlib.Omega.{arith}
@@ -7,23 +5,16 @@ use mathlib.Core.List.{[]}
 use borrow.Author.Needs.{needs}
 use Rattle.codec.proofs.cs.size_configuration.Statement.{statement}
 use Rattle.codec.proofs.cs.size_configuration.Tie as tie
-use Rattle.codec.proofs.cs.size_configuration.Reads as reads
-use Rattle.codec.proofs.cs.size_configuration.Lts as lts
-use Rattle.codec.proofs.octets.address_length.Reads as address-length-reads
 
--- src/cs.rt:115:20
 address-length-requires : tie.Need-address-length-requires
 address-length-requires c κs = search needs
 
--- src/cs.rt:115:16
 add-size : tie.Need-add-size
 add-size c = search needs
 
--- src/cs.rt:111:1
 returns : tie.Need-returns
 returns c = sized _ _ _ _ _ _ (c .if1 .taken) (omega (arith, c .before .address-length .ensures .0)) (omega (arith, c .before .address-length .ensures .1, length-append (c .before .before .before .before .args .v .address) []))
 
--- src/cs.rt:111:1
 returns-2 : tie.Need-returns-2
 returns-2 c = search needs
 

@@ -2,23 +2,16 @@ use mathlib.Core.Bool.{and-true}
 use borrow.Author.Needs.{needs}
 use Rattle.codec.proofs.cs.valid_capability.Statement.{statement}
 use Rattle.codec.proofs.cs.valid_capability.Tie as tie
-use Rattle.codec.proofs.cs.valid_capability.Reads as reads
-use Rattle.codec.proofs.cs.valid_capability.Lts as lts
-use Rattle.codec.proofs.octets.zero_from.Reads as zero-from-reads
 
--- src/cs.rt:69:9
 returns : tie.Need-returns
 returns c = search needs
 
--- src/cs.rt:72:41
 slice-aggregate-zero-from : tie.Need-slice-aggregate-zero-from
 slice-aggregate-zero-from c = search needs
 
--- src/cs.rt:72:31
 zero-from-requires : tie.Need-zero-from-requires
 zero-from-requires c κs = search needs
 
--- src/cs.rt:65:1
 returns-2 : tie.Need-returns-2
 returns-2 c = simp (c .before .before .before .before .if1 .left, c .zero-from .ensures, and-true)
 

@@ -1,54 +1,40 @@
 use Rattle.codec.specs.Records.{ofNanCapability}
 use Rattle.codec.specs.Blocks.{nanCapability}
 use Rattle.codec.proofs.Puts.{put-then, put-last, put-block, put-absent, room-present}
-use lib.ListN.{length, take, length-append}
-use mathlib.Core.List.{List, [], _∷_, _++_, append-assoc}
-use mathlib.Core.Path.{_≡_}
+use lib.ListN.{length}
 use native.Mathlib.Omega.{arith}
-use Prim.Native.Nat.{ℕ, _+_, _≤_}
+use Prim.Native.Nat.{_+_, _≤_}
 use borrow.Author.Needs.{needs}
 use Rattle.codec.proofs.nan.put_capability.Statement.{statement}
 use Rattle.codec.proofs.nan.put_capability.Tie as tie
-use Rattle.codec.proofs.nan.put_capability.Reads as reads
-use Rattle.codec.proofs.nan.put_capability.Lts as lts
-use Rattle.codec.proofs.octets.put.Reads as put-reads
 
 room : (c : tie.Else1) → let s = c .before .before in s .args .at + 6 ≤ length (s .args .out .now)
 room c = room-present (c .before .before .args .present) 6 _ (c .before .before .args .at) (c .if1 .left) (c .before .before .pre)
 
--- src/nan.rt:112:9
 returns : tie.Need-returns
 returns c = put-absent (c .before .before .args .present) (c .before .before .args .out .now) (c .before .before .args .at) _ nanCapability 2 (ofNanCapability (c .before .before .args .v)) (c .if1 .taken) (c .before .before .pre)
 
--- src/nan.rt:114:9
 put-requires : tie.Need-put-requires
 put-requires c κs = omega (arith, room (c .before))
 
--- src/nan.rt:115:9
 put-requires-2 : tie.Need-put-requires-2
 put-requires-2 c κs = omega (arith, room (c .before .before .before .before .before))
 
--- src/nan.rt:116:9
 put-requires-3 : tie.Need-put-requires-3
 put-requires-3 c κs = omega (arith, room (c .before .before .before .before .before .before .before .before .before))
 
--- src/nan.rt:117:9
 put-requires-4 : tie.Need-put-requires-4
 put-requires-4 c κs = omega (arith, room (c .before .before .before .before .before .before .before .before .before .before .before .before .before))
 
--- src/nan.rt:118:9
 put-requires-5 : tie.Need-put-requires-5
 put-requires-5 c κs = omega (arith, room (c .before .before .before .before .before .before .before .before .before .before .before .before .before .before .before .before .before))
 
--- src/nan.rt:119:5
 put-requires-6 : tie.Need-put-requires-6
 put-requires-6 c κs = omega (arith, room (c .before .before .before .before .before .before .before .before .before .before .before .before .before .before .before .before .before .before .before .before .before))
 
--- src/nan.rt:107:1
 same-length : tie.Need-same-length
 same-length c = search needs
 
--- src/nan.rt:107:1
 returns-2 : tie.Need-returns-2
 returns-2 c =
     put-block (c .before .before .before .before .before .before .before .before .before .before .before .before .before .before .before .before .before .before .before .before .before .before .before .before .before .before .args .present) nanCapability 2 6 (ofNanCapability (c .before .before .before .before .before .before .before .before .before .before .before .before .before .before .before .before .before .before .before .before .before .before .before .before .before .before .args .v)) (c .before .before .before .before .before .before .before .before .before .before .before .before .before .before .before .before .before .before .before .before .before .before .before .before .if1 .left) (omega arith)

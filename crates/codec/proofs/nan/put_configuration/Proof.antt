@@ -1,63 +1,46 @@
 use Rattle.codec.specs.Records.{ofNanConfiguration}
 use Rattle.codec.specs.Blocks.{nanConfiguration}
 use Rattle.codec.proofs.Puts.{put-then, put-last, put-block, put-absent, room-present}
-use lib.ListN.{length, take, length-append}
-use mathlib.Core.List.{List, [], _∷_, _++_, append-assoc}
-use mathlib.Core.Path.{_≡_}
+use lib.ListN.{length, length-append}
 use native.Mathlib.Omega.{arith}
-use Prim.Native.Nat.{ℕ, _+_, _≤_}
+use Prim.Native.Nat.{_+_, _≤_}
 use borrow.Author.Needs.{needs}
 use Rattle.codec.proofs.nan.put_configuration.Statement.{statement}
 use Rattle.codec.proofs.nan.put_configuration.Tie as tie
-use Rattle.codec.proofs.nan.put_configuration.Reads as reads
-use Rattle.codec.proofs.nan.put_configuration.Lts as lts
-use Rattle.codec.proofs.octets.put.Reads as put-reads
-use Rattle.codec.proofs.octets.put_name.Reads as put-name-reads
 
 room : (c : tie.Else1) → let s = c .before .before in s .args .at + (5 + s .args .v .«name_length») ≤ length (s .args .out .now)
 room c = room-present (c .before .before .args .present) (5 + c .before .before .args .v .«name_length») _ (c .before .before .args .at) (c .if1 .left) (c .before .before .pre .0)
 
--- src/nan.rt:146:9
 returns : tie.Need-returns
 returns c = put-absent (c .before .before .args .present) (c .before .before .args .out .now) (c .before .before .args .at) _ nanConfiguration 2 (ofNanConfiguration (c .before .before .args .v)) (c .if1 .taken) (c .before .before .pre .0)
 
--- src/nan.rt:149:13
 cast-n : tie.Need-cast-n
 cast-n c = search needs
 
--- src/nan.rt:150:9
 put-requires : tie.Need-put-requires
 put-requires c κs = omega (arith, room (c .before .before .before))
 
--- src/nan.rt:151:33
 add-put : tie.Need-add-put
 add-put c = search needs
 
--- src/nan.rt:151:9
 put-requires-2 : tie.Need-put-requires-2
 put-requires-2 c κs = omega (arith, room (c .before .before .before .before .before .before .before .before))
 
--- src/nan.rt:152:9
 put-requires-3 : tie.Need-put-requires-3
 put-requires-3 c κs = omega (arith, room (c .before .before .before .before .before .before .before .before .before .before .before .before))
 
--- src/nan.rt:153:9
 put-name-requires : tie.Need-put-name-requires
 put-name-requires c κs = (c .before .before .before .before .before .before .before .before .before .before .before .before .before .before .before .before .before .before .before .pre .1, omega (arith, room (c .before .before .before .before .before .before .before .before .before .before .before .before .before .before .before .before .before)))
 
--- src/nan.rt:154:9
 put-requires-4 : tie.Need-put-requires-4
 put-requires-4 c κs = omega (arith, room (c .before .before .before .before .before .before .before .before .before .before .before .before .before .before .before .before .before .before .before .before .before))
 
--- src/nan.rt:155:5
 put-requires-5 : tie.Need-put-requires-5
 put-requires-5 c κs = omega (arith, room (c .before .before .before .before .before .before .before .before .before .before .before .before .before .before .before .before .before .before .before .before .before .before .before .before .before))
 
--- src/nan.rt:136:1
 same-length : tie.Need-same-length
 same-length c = search needs
 
--- src/nan.rt:136:1
 returns-2 : tie.Need-returns-2
 returns-2 c =
     put-block (c .before .before .before .before .before .before .before .before .before .before .before .before .before .before .before .before .before .before .before .before .before .before .before .before .before .before .before .before .before .before .args .present) nanConfiguration 2 (5 + c .before .before .before .before .before .before .before .before .before .before .before .before .before .before .before .before .before .before .before .before .before .before .before .before .before .before .before .before .before .before .args .v .«name_length») (ofNanConfiguration (c .before .before .before .before .before .before .before .before .before .before .before .before .before .before .before .before .before .before .before .before .before .before .before .before .before .before .before .before .before .before .args .v)) (c .before .before .before .before .before .before .before .before .before .before .before .before .before .before .before .before .before .before .before .before .before .before .before .before .before .before .before .before .if1 .left) (simp length-append (omega (arith, c .before .before .before .before .before .before .before .before .before .before .put-name .ensures .1)))

@@ -4,27 +4,19 @@ use native.Mathlib.Omega.{arith}
 use borrow.Author.Needs.{needs}
 use Rattle.codec.proofs.nan.size_configuration.Statement.{statement}
 use Rattle.codec.proofs.nan.size_configuration.Tie as tie
-use Rattle.codec.proofs.nan.size_configuration.Reads as reads
-use Rattle.codec.proofs.nan.size_configuration.Lts as lts
-use Rattle.codec.proofs.octets.name_length.Reads as name-length-reads
 
--- src/nan.rt:150:13
 cast-n : tie.Need-cast-n
 cast-n c = search needs
 
--- src/nan.rt:151:20
 name-length-requires : tie.Need-name-length-requires
 name-length-requires c κs = search needs
 
--- src/nan.rt:151:16
 add-size : tie.Need-add-size
 add-size c = search needs
 
--- src/nan.rt:145:1
 returns : tie.Need-returns
 returns c = sized _ _ _ _ _ _ (c .if1 .taken) (omega (arith, c .before .name-length .ensures .0)) (simp length-append (omega (arith, c .before .name-length .ensures .1)))
 
--- src/nan.rt:145:1
 returns-2 : tie.Need-returns-2
 returns-2 c = search needs
 

@@ -2,19 +2,13 @@ use mathlib.Core.Bool.{and-true}
 use borrow.Author.Needs.{needs}
 use Rattle.codec.proofs.nan.valid_capability.Statement.{statement}
 use Rattle.codec.proofs.nan.valid_capability.Tie as tie
-use Rattle.codec.proofs.nan.valid_capability.Reads as reads
-use Rattle.codec.proofs.nan.valid_capability.Lts as lts
-use Rattle.codec.proofs.octets.inside.Reads as inside-reads
 
--- src/nan.rt:102:9
 inside-requires : tie.Need-inside-requires
 inside-requires c κs = search needs
 
--- src/nan.rt:102:9
 returns : tie.Need-returns
 returns c = simp (c .before .if1 .taken, c .inside .ensures, and-true)
 
--- src/nan.rt:98:1
 returns-2 : tie.Need-returns-2
 returns-2 c = simp (c .before .before .before .before .if1 .left, and-true)
 

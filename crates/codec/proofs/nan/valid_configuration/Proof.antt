@@ -4,52 +4,37 @@ use borrow.Author.Tests.{not-true, not-false}
 use borrow.Author.Needs.{needs}
 use Rattle.codec.proofs.nan.valid_configuration.Statement.{statement}
 use Rattle.codec.proofs.nan.valid_configuration.Tie as tie
-use Rattle.codec.proofs.nan.valid_configuration.Reads as reads
-use Rattle.codec.proofs.nan.valid_configuration.Lts as lts
-use Rattle.codec.proofs.octets.inside.Reads as inside-reads
-use Rattle.codec.proofs.octets.zero_from.Reads as zero-from-reads
 
--- src/nan.rt:128:50
 slice-aggregate-zero-from : tie.Need-slice-aggregate-zero-from
 slice-aggregate-zero-from c = search needs
 
--- src/nan.rt:128:40
 zero-from-requires : tie.Need-zero-from-requires
 zero-from-requires c κs = search needs
 
--- src/nan.rt:128:9
 returns : tie.Need-returns
 returns c = simp (not-true (c .before .before .before .before .before .before .before .args .present) (c .before .before .before .before .before .if1 .taken), c .before .before .zero-from .ensures, and-true)
 
--- src/nan.rt:130:9
 inside-requires : tie.Need-inside-requires
 inside-requires c κs = search needs
 
--- src/nan.rt:131:9
 returns-2 : tie.Need-returns-2
 returns-2 c = simp (not-false (c .before .before .before .before .args .present) (c .before .before .if1 .left), failed (c .before .inside .ensures) (c .if2 .taken))
 
--- src/nan.rt:133:13
 cast-n : tie.Need-cast-n
 cast-n c = search needs
 
--- src/nan.rt:134:5
 inside-requires-2 : tie.Need-inside-requires-2
 inside-requires-2 c κs = search needs
 
--- src/nan.rt:134:29
 inside-requires-3 : tie.Need-inside-requires-3
 inside-requires-3 c κs = search needs
 
--- src/nan.rt:134:66
 slice-aggregate-zero-from-2 : tie.Need-slice-aggregate-zero-from-2
 slice-aggregate-zero-from-2 c = search needs
 
--- src/nan.rt:134:56
 zero-from-requires-2 : tie.Need-zero-from-requires-2
 zero-from-requires-2 c κs = search needs
 
--- src/nan.rt:123:1
 returns-3 : tie.Need-returns-3
 returns-3 c = simp (not-false (c .before .before .before .before .before .before .before .before .before .args .present) (c .before .before .before .before .before .before .before .if1 .left), passed (c .before .before .before .before .before .before .inside .ensures) (c .before .before .before .before .before .if2 .left), c .before .before .before .inside2 .ensures, c .before .before .inside3 .ensures, c .zero-from2 .ensures, and-true, and-assoc)
 

@@ -5,22 +5,16 @@ use mathlib.Core.Path.{sym, _∙_}
 use borrow.Author.Needs.{needs}
 use Rattle.codec.proofs.octets.first_length.Statement.{statement}
 use Rattle.codec.proofs.octets.first_length.Tie as tie
-use Rattle.codec.proofs.octets.first_length.Reads as reads
-use Rattle.codec.proofs.octets.first_length.Lts as lts
-use Rattle.codec.proofs.octets.length_of.Reads as length-of-reads
 
 length-first : (c : tie.Start) → length (take (c .args .n) (c .args .s .now)) ≡ c .args .n
 length-first c = length-take-le _ _ (c .pre)
 
--- src/octets.rt:128:15
 slice-aggregate-length-of : tie.Need-slice-aggregate-length-of
 slice-aggregate-length-of c = sym (length-first (c .before .before))
 
--- src/octets.rt:128:5
 length-of-requires : tie.Need-length-of-requires
 length-of-requires c κs = search needs
 
--- src/octets.rt:124:1
 returns : tie.Need-returns
 returns c = (c .length-of .ensures ∙ length-first (c .before .before .before), length-first (c .before .before .before))
 

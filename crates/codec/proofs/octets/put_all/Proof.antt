@@ -6,35 +6,25 @@ use Prim.Native.Nat.{ℕ, _+_, _-_}
 use borrow.Author.Needs.{needs}
 use Rattle.codec.proofs.octets.put_all.Statement.{statement}
 use Rattle.codec.proofs.octets.put_all.Tie as tie
-use Rattle.codec.proofs.octets.put_all.Reads as reads
-use Rattle.codec.proofs.octets.put_all.Lts as lts
-use Rattle.bytes.proofs.copy.Reads as copy-reads
 
--- src/octets.rt:136:15
 add-end : tie.Need-add-end
 add-end c = search needs
 
--- src/octets.rt:137:20
 sub-copy : tie.Need-sub-copy
 sub-copy c = search needs
 
--- src/octets.rt:137:20
 part-copy-start : tie.Need-part-copy-start
 part-copy-start c = search needs
 
--- src/octets.rt:137:20
 part-copy-end : tie.Need-part-copy-end
 part-copy-end c = search needs
 
--- src/octets.rt:137:5
 copy-requires : tie.Need-copy-requires
 copy-requires c κs = search needs
 
--- src/octets.rt:132:1
 same-length : tie.Need-same-length
 same-length c = search needs
 
--- src/octets.rt:132:1
 returns : tie.Need-returns
 returns c =
     let a = c .before .before .before .before .before .before .args in

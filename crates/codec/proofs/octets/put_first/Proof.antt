@@ -2,30 +2,22 @@ use lib.Seq.{length-take-le}
 use lib.ListN.{length, take}
 use native.Mathlib.Omega.{arith}
 use mathlib.Core.Path.{_≡_, sym}
-use Prim.Native.Nat.{_+_, _≤_}
 use borrow.Author.Needs.{needs}
 use Rattle.codec.proofs.octets.put_first.Statement.{statement}
 use Rattle.codec.proofs.octets.put_first.Tie as tie
-use Rattle.codec.proofs.octets.put_first.Reads as reads
-use Rattle.codec.proofs.octets.put_first.Lts as lts
-use Rattle.codec.proofs.octets.put_all.Reads as put-all-reads
 
 length-first : (c : tie.Start) → length (take (c .args .n) (c .args .s .now)) ≡ c .args .n
 length-first c = length-take-le _ _ (c .pre .0)
 
--- src/octets.rt:147:22
 slice-aggregate-put-all : tie.Need-slice-aggregate-put-all
 slice-aggregate-put-all c = sym (length-first (c .before .before .before .before))
 
--- src/octets.rt:147:5
 put-all-requires : tie.Need-put-all-requires
 put-all-requires c κs = omega (arith, length-first (c .before .before .before .before))
 
--- src/octets.rt:143:1
 same-length : tie.Need-same-length
 same-length c = search needs
 
--- src/octets.rt:143:1
 returns : tie.Need-returns
 returns c = search needs
 

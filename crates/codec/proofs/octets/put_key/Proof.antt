@@ -3,19 +3,13 @@ use lib.Seq.{length-take-le}
 use borrow.Author.Needs.{needs}
 use Rattle.codec.proofs.octets.put_key.Statement.{statement}
 use Rattle.codec.proofs.octets.put_key.Tie as tie
-use Rattle.codec.proofs.octets.put_key.Reads as reads
-use Rattle.codec.proofs.octets.put_key.Lts as lts
-use Rattle.codec.proofs.octets.put_first.Reads as put-first-reads
 
--- src/octets.rt:171:5
 put-first-requires : tie.Need-put-first-requires
 put-first-requires c κs = search needs
 
--- src/octets.rt:167:1
 same-length : tie.Need-same-length
 same-length c = search needs
 
--- src/octets.rt:167:1
 returns : tie.Need-returns
 returns c = (c .before .before .put-first .ensures, length-take-le (c .before .before .before .before .before .before .args .k) (c .before .before .before .before .before .before .args .key .now) (omega arith))
 

@@ -2,31 +2,22 @@ use Rattle.codec.proofs.Puts.{put-then}
 use borrow.Author.Needs.{needs}
 use Rattle.codec.proofs.octets.put_u16.Statement.{statement}
 use Rattle.codec.proofs.octets.put_u16.Tie as tie
-use Rattle.codec.proofs.octets.put_u16.Reads as reads
-use Rattle.codec.proofs.octets.put_u16.Lts as lts
-use Rattle.codec.proofs.octets.put.Reads as put-reads
 
--- src/octets.rt:118:29
 cast-put : tie.Need-cast-put
 cast-put c = search needs
 
--- src/octets.rt:118:9
 put-requires : tie.Need-put-requires
 put-requires c κs = search needs
 
--- src/octets.rt:119:20
 cast-put-2 : tie.Need-cast-put-2
 cast-put-2 c = search needs
 
--- src/octets.rt:119:5
 put-requires-2 : tie.Need-put-requires-2
 put-requires-2 c κs = search needs
 
--- src/octets.rt:114:1
 same-length : tie.Need-same-length
 same-length c = search needs
 
--- src/octets.rt:114:1
 returns : tie.Need-returns
 returns c = put-then (c .before .before .before .before .before .before .put .ensures) (c .before .before .put2 .ensures)
 

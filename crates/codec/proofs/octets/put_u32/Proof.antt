@@ -1,33 +1,23 @@
 use Rattle.codec.proofs.Puts.{put-then, four-octets}
-use mathlib.Core.Path.{_≡_}
 use borrow.Author.Needs.{needs}
 use Rattle.codec.proofs.octets.put_u32.Statement.{statement}
 use Rattle.codec.proofs.octets.put_u32.Tie as tie
-use Rattle.codec.proofs.octets.put_u32.Reads as reads
-use Rattle.codec.proofs.octets.put_u32.Lts as lts
-use Rattle.codec.proofs.octets.put_u16.Reads as put-u16-reads
 
--- src/octets.rt:127:33
 cast-put-u16 : tie.Need-cast-put-u16
 cast-put-u16 c = search needs
 
--- src/octets.rt:127:9
 put-u16-requires : tie.Need-put-u16-requires
 put-u16-requires c κs = search needs
 
--- src/octets.rt:128:24
 cast-put-u16-2 : tie.Need-cast-put-u16-2
 cast-put-u16-2 c = search needs
 
--- src/octets.rt:128:5
 put-u16-requires-2 : tie.Need-put-u16-requires-2
 put-u16-requires-2 c κs = search needs
 
--- src/octets.rt:123:1
 same-length : tie.Need-same-length
 same-length c = search needs
 
--- src/octets.rt:123:1
 returns : tie.Need-returns
 returns c = rw (← four-octets (c .before .before .before .before .before .before .before .before .before .args .x)) (put-then (c .before .before .before .before .before .before .put-u16 .ensures) (c .before .before .put-u162 .ensures))
 

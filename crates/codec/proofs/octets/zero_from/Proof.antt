@@ -1,15 +1,13 @@
-use Prim.Native.Nat.{ℕ, _+_, _-_, _≤_, _<_}
+use Prim.Native.Nat.{_-_}
 use native.Mathlib.Omega.{arith}
 use native.Mathlib.Numerals.{add-one}
-use mathlib.Core.Path.{_≡_, refl, sym, ap, _∙_}
-use lib.ListN.{length, getD, drop, drop-of-length-le}
+use mathlib.Core.Path.{_≡_, refl, sym, _∙_}
+use lib.ListN.{length, drop, drop-of-length-le}
 use lib.Seq.{drop-cons}
 use borrow.Author.Tests.{eq-eqb, ne-eqb}
 use Rattle.codec.specs.Octets.{allZero}
 use Rattle.codec.proofs.octets.zero_from.Statement.{statement}
 use Rattle.codec.proofs.octets.zero_from.Tie as tie
-use Rattle.codec.proofs.octets.zero_from.Reads as reads
-use Rattle.codec.proofs.octets.zero_from.Lts as lts
 
 abbrev Inv-loop : tie.InvT-loop
 Inv-loop s from i₀ i = allZero (drop from s) ≡ allZero (drop i s)
@@ -17,15 +15,12 @@ Inv-loop s from i₀ i = allZero (drop from s) ≡ allZero (drop i s)
 abbrev μ-loop : tie.MeasureT-loop
 μ-loop s from i₀ i = length s - i
 
--- src/octets.rt:96:5
 loop-holds : tie.Need-loop-holds Inv-loop μ-loop
 loop-holds c = refl
 
--- src/octets.rt:97:12
 shared-slice-read-if1 : tie.Need-shared-slice-read-if1 Inv-loop μ-loop
 shared-slice-read-if1 c = omega arith
 
--- src/octets.rt:98:13
 returns : tie.Need-returns Inv-loop μ-loop
 unfolding allZero
 returns c =
@@ -33,15 +28,12 @@ returns c =
     let s = c .before .before .before .before .args .s .now in
     sym (l .inv ∙ rw (drop-cons s (l .i) 0 (omega arith), ne-eqb _ 0 (c .if1 .taken)))
 
--- src/octets.rt:100:9
 add-i : tie.Need-add-i Inv-loop μ-loop
 add-i c = omega arith
 
--- src/octets.rt:96:5
 loop-less : tie.Need-loop-less Inv-loop μ-loop
 loop-less c = omega arith
 
--- src/octets.rt:96:5
 loop-again : tie.Need-loop-again Inv-loop μ-loop
 unfolding allZero
 loop-again c =
@@ -49,7 +41,6 @@ loop-again c =
     let s = c .before .before .before .before .args .s .now in
     l .inv ∙ rw (drop-cons s (l .i) 0 (omega arith), eq-eqb _ 0 (c .if1 .left), add-one)
 
--- src/octets.rt:92:1
 returns-2 : tie.Need-returns-2 Inv-loop μ-loop
 unfolding allZero
 returns-2 c =

@@ -1,43 +1,32 @@
 use Rattle.codec.specs.Records.{ofRssi}
 use Rattle.codec.specs.Blocks.{rssiBlock}
 use Rattle.codec.proofs.Puts.{put-then, put-last, put-block, put-absent, room-present}
-use lib.ListN.{length, take, length-append}
-use mathlib.Core.List.{List, [], _∷_, _++_, append-assoc}
-use mathlib.Core.Path.{_≡_}
+use lib.ListN.{length, length-append}
+use mathlib.Core.List.{[]}
 use native.Mathlib.Omega.{arith}
-use Prim.Native.Nat.{ℕ, _+_, _≤_}
+use Prim.Native.Nat.{_+_, _≤_}
 use borrow.Author.Needs.{needs}
 use Rattle.codec.proofs.rssi.put_block.Statement.{statement}
 use Rattle.codec.proofs.rssi.put_block.Tie as tie
-use Rattle.codec.proofs.rssi.put_block.Reads as reads
-use Rattle.codec.proofs.rssi.put_block.Lts as lts
-use Rattle.codec.proofs.octets.put.Reads as put-reads
-use Rattle.codec.proofs.octets.put_address.Reads as put-address-reads
 
 room : (c : tie.Else1) → let s = c .before .before in s .args .at + 8 ≤ length (s .args .out .now)
 room c = room-present (c .before .before .args .present) 8 _ (c .before .before .args .at) (c .if1 .left) (c .before .before .pre)
 
--- src/rssi.rt:47:9
 returns : tie.Need-returns
 returns c = put-absent (c .before .before .args .present) (c .before .before .args .out .now) (c .before .before .args .at) _ rssiBlock 3 (ofRssi (c .before .before .args .v)) (c .if1 .taken) (c .before .before .pre)
 
--- src/rssi.rt:50:9
 put-requires : tie.Need-put-requires
 put-requires c κs = omega (arith, room (c .before .before))
 
--- src/rssi.rt:51:9
 put-requires-2 : tie.Need-put-requires-2
 put-requires-2 c κs = omega (arith, room (c .before .before .before .before .before .before))
 
--- src/rssi.rt:52:5
 put-address-requires : tie.Need-put-address-requires
 put-address-requires c κs = omega (arith, room (c .before .before .before .before .before .before .before .before .before .before .before))
 
--- src/rssi.rt:42:1
 same-length : tie.Need-same-length
 same-length c = search needs
 
--- src/rssi.rt:42:1
 returns-2 : tie.Need-returns-2
 returns-2 c =
     put-block (c .before .before .before .before .before .before .before .before .before .before .before .before .before .before .before .before .args .present) rssiBlock 3 8 (ofRssi (c .before .before .before .before .before .before .before .before .before .before .before .before .before .before .before .before .args .v)) (c .before .before .before .before .before .before .before .before .before .before .before .before .before .before .if1 .left) (omega (arith, length-append (c .before .before .before .before .before .before .before .before .before .before .before .before .before .before .before .before .args .v .address) [], c .before .before .put-address .ensures .1))

@@ -5,23 +5,16 @@ use mathlib.Core.List.{[]}
 use borrow.Author.Needs.{needs}
 use Rattle.codec.proofs.rssi.size_block.Statement.{statement}
 use Rattle.codec.proofs.rssi.size_block.Tie as tie
-use Rattle.codec.proofs.rssi.size_block.Reads as reads
-use Rattle.codec.proofs.rssi.size_block.Lts as lts
-use Rattle.codec.proofs.octets.address_length.Reads as address-length-reads
 
--- src/rssi.rt:47:20
 address-length-requires : tie.Need-address-length-requires
 address-length-requires c κs = search needs
 
--- src/rssi.rt:47:16
 add-size : tie.Need-add-size
 add-size c = search needs
 
--- src/rssi.rt:43:1
 returns : tie.Need-returns
 returns c = sized _ _ _ _ _ _ (c .if1 .taken) (omega (arith, c .before .address-length .ensures .0)) (omega (arith, c .before .address-length .ensures .1, length-append (c .before .before .before .before .args .v .address) []))
 
--- src/rssi.rt:43:1
 returns-2 : tie.Need-returns-2
 returns-2 c = search needs
 

@@ -2,23 +2,16 @@ use mathlib.Core.Bool.{and-true}
 use borrow.Author.Needs.{needs}
 use Rattle.codec.proofs.rssi.valid_block.Statement.{statement}
 use Rattle.codec.proofs.rssi.valid_block.Tie as tie
-use Rattle.codec.proofs.rssi.valid_block.Reads as reads
-use Rattle.codec.proofs.rssi.valid_block.Lts as lts
-use Rattle.codec.proofs.octets.zero_from.Reads as zero-from-reads
 
--- src/rssi.rt:35:9
 returns : tie.Need-returns
 returns c = search needs
 
--- src/rssi.rt:38:15
 slice-aggregate-zero-from : tie.Need-slice-aggregate-zero-from
 slice-aggregate-zero-from c = search needs
 
--- src/rssi.rt:38:5
 zero-from-requires : tie.Need-zero-from-requires
 zero-from-requires c κs = search needs
 
--- src/rssi.rt:31:1
 returns-2 : tie.Need-returns-2
 returns-2 c = simp (c .before .before .before .if1 .left, c .zero-from .ensures, and-true)
 

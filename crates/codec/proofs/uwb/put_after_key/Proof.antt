@@ -2,28 +2,19 @@ use Rattle.codec.proofs.Puts.{put-then, put-last}
 use borrow.Author.Needs.{needs}
 use Rattle.codec.proofs.uwb.put_after_key.Statement.{statement}
 use Rattle.codec.proofs.uwb.put_after_key.Tie as tie
-use Rattle.codec.proofs.uwb.put_after_key.Reads as reads
-use Rattle.codec.proofs.uwb.put_after_key.Lts as lts
-use Rattle.codec.proofs.octets.put.Reads as put-reads
-use Rattle.codec.proofs.octets.put_pair.Reads as put-pair-reads
 
--- src/uwb.rt:273:9
 put-pair-requires : tie.Need-put-pair-requires
 put-pair-requires c κs = search needs
 
--- src/uwb.rt:274:9
 put-requires : tie.Need-put-requires
 put-requires c κs = search needs
 
--- src/uwb.rt:275:5
 put-requires-2 : tie.Need-put-requires-2
 put-requires-2 c κs = search needs
 
--- src/uwb.rt:268:1
 same-length : tie.Need-same-length
 same-length c = search needs
 
--- src/uwb.rt:268:1
 returns : tie.Need-returns
 returns c = (put-then (c .before .before .before .before .before .before .before .before .before .before .put-pair .ensures .0) (put-then (c .before .before .before .before .before .before .put .ensures) (put-last (c .before .before .put2 .ensures))), c .before .before .before .before .before .before .before .before .before .before .put-pair .ensures .1)
 

@@ -1,70 +1,49 @@
 use Rattle.codec.specs.Records.{ofUwbConfiguration}
 use Rattle.codec.specs.Blocks.{uwbConfiguration}
-use Rattle.codec.proofs.Puts.{put-then, put-last, put-block, put-absent, room-present}
-use lib.ListN.{length, take, length-append}
-use mathlib.Core.List.{List, [], _∷_, _++_, append-assoc}
-use mathlib.Core.Path.{_≡_}
+use Rattle.codec.proofs.Puts.{put-then, put-block, put-absent, room-present}
+use lib.ListN.{length, length-append}
 use native.Mathlib.Omega.{arith}
-use Prim.Native.Nat.{ℕ, _+_, _≤_}
+use Prim.Native.Nat.{_+_, _≤_}
 use borrow.Author.Needs.{needs}
 use Rattle.codec.proofs.uwb.put_configuration.Statement.{statement}
 use Rattle.codec.proofs.uwb.put_configuration.Tie as tie
-use Rattle.codec.proofs.uwb.put_configuration.Reads as reads
-use Rattle.codec.proofs.uwb.put_configuration.Lts as lts
-use Rattle.codec.proofs.octets.put.Reads as put-reads
-use Rattle.codec.proofs.octets.put_key.Reads as put-key-reads
-use Rattle.codec.proofs.octets.put_pair.Reads as put-pair-reads
-use Rattle.codec.proofs.uwb.put_after_key.Reads as put-after-key-reads
-use Rattle.codec.proofs.uwb.put_before_key.Reads as put-before-key-reads
 
 room : (c : tie.Else1) → let s = c .before .before in s .args .at + (19 + s .args .v .«key_length») ≤ length (s .args .out .now)
 room c = room-present (c .before .before .args .present) (19 + c .before .before .args .v .«key_length») _ (c .before .before .args .at) (c .if1 .left) (c .before .before .pre .0)
 
--- src/uwb.rt:309:9
 returns : tie.Need-returns
 returns c = put-absent (c .before .before .args .present) (c .before .before .args .out .now) (c .before .before .args .at) _ uwbConfiguration 0 (ofUwbConfiguration (c .before .before .args .v)) (c .if1 .taken) (c .before .before .pre .0)
 
--- src/uwb.rt:313:13
 cast-k : tie.Need-cast-k
 cast-k c = search needs
 
--- src/uwb.rt:314:9
 put-requires : tie.Need-put-requires
 put-requires c κs = omega (arith, room (c .before .before .before .before))
 
--- src/uwb.rt:315:33
 add-put : tie.Need-add-put
 add-put c = search needs
 
--- src/uwb.rt:315:9
 put-requires-2 : tie.Need-put-requires-2
 put-requires-2 c κs = omega (arith, room (c .before .before .before .before .before .before .before .before .before))
 
--- src/uwb.rt:316:9
 put-pair-requires : tie.Need-put-pair-requires
 put-pair-requires c κs = omega (arith, room (c .before .before .before .before .before .before .before .before .before .before .before .before .before .before))
 
--- src/uwb.rt:317:9
 put-before-key-requires : tie.Need-put-before-key-requires
 put-before-key-requires c κs = omega (arith, room (c .before .before .before .before .before .before .before .before .before .before .before .before .before .before .before .before .before .before))
 
--- src/uwb.rt:318:9
 put-requires-3 : tie.Need-put-requires-3
 put-requires-3 c κs = omega (arith, room (c .before .before .before .before .before .before .before .before .before .before .before .before .before .before .before .before .before .before .before .before .before .before))
 
--- src/uwb.rt:319:9
 put-key-requires : tie.Need-put-key-requires
 put-key-requires c κs = (c .before .before .before .before .before .before .before .before .before .before .before .before .before .before .before .before .before .before .before .before .before .before .before .before .before .before .before .before .before .pre .1, omega (arith, room (c .before .before .before .before .before .before .before .before .before .before .before .before .before .before .before .before .before .before .before .before .before .before .before .before .before .before .before)))
 
--- src/uwb.rt:320:5
 put-after-key-requires : tie.Need-put-after-key-requires
 put-after-key-requires c κs = omega (arith, room (c .before .before .before .before .before .before .before .before .before .before .before .before .before .before .before .before .before .before .before .before .before .before .before .before .before .before .before .before .before .before .before))
 
--- src/uwb.rt:299:1
 same-length : tie.Need-same-length
 same-length c = search needs
 
--- src/uwb.rt:299:1
 returns-2 : tie.Need-returns-2
 returns-2 c =
     put-block (c .before .before .before .before .before .before .before .before .before .before .before .before .before .before .before .before .before .before .before .before .before .before .before .before .before .before .before .before .before .before .before .before .before .before .before .before .args .present) uwbConfiguration 0 (19 + c .before .before .before .before .before .before .before .before .before .before .before .before .before .before .before .before .before .before .before .before .before .before .before .before .before .before .before .before .before .before .before .before .before .before .before .before .args .v .«key_length») (ofUwbConfiguration (c .before .before .before .before .before .before .before .before .before .before .before .before .before .before .before .before .before .before .before .before .before .before .before .before .before .before .before .before .before .before .before .before .before .before .before .before .args .v)) (c .before .before .before .before .before .before .before .before .before .before .before .before .before .before .before .before .before .before .before .before .before .before .before .before .before .before .before .before .before .before .before .before .before .before .if1 .left) (simp length-append (omega (arith, c .before .before .before .before .before .before .before .before .before .before .before .before .before .before .before .before .before .before .before .put-pair .ensures .1, c .before .before .before .before .before .before .put-key .ensures .1, c .before .before .put-after-key .ensures .1)))

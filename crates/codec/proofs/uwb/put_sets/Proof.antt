@@ -2,27 +2,19 @@ use Rattle.codec.proofs.Puts.{put-then}
 use borrow.Author.Needs.{needs}
 use Rattle.codec.proofs.uwb.put_sets.Statement.{statement}
 use Rattle.codec.proofs.uwb.put_sets.Tie as tie
-use Rattle.codec.proofs.uwb.put_sets.Reads as reads
-use Rattle.codec.proofs.uwb.put_sets.Lts as lts
-use Rattle.codec.proofs.octets.put_u32.Reads as put-u32-reads
 
--- src/uwb.rt:211:9
 put-u32-requires : tie.Need-put-u32-requires
 put-u32-requires c κs = search needs
 
--- src/uwb.rt:212:9
 put-u32-requires-2 : tie.Need-put-u32-requires-2
 put-u32-requires-2 c κs = search needs
 
--- src/uwb.rt:213:5
 put-u32-requires-3 : tie.Need-put-u32-requires-3
 put-u32-requires-3 c κs = search needs
 
--- src/uwb.rt:207:1
 same-length : tie.Need-same-length
 same-length c = search needs
 
--- src/uwb.rt:207:1
 returns : tie.Need-returns
 returns c = put-then (c .before .before .before .before .before .before .before .before .before .before .put-u32 .ensures) (put-then (c .before .before .before .before .before .before .put-u322 .ensures) (c .before .before .put-u323 .ensures))
 

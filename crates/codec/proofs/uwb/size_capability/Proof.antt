@@ -4,23 +4,16 @@ use native.Mathlib.Omega.{arith}
 use borrow.Author.Needs.{needs}
 use Rattle.codec.proofs.uwb.size_capability.Statement.{statement}
 use Rattle.codec.proofs.uwb.size_capability.Tie as tie
-use Rattle.codec.proofs.uwb.size_capability.Reads as reads
-use Rattle.codec.proofs.uwb.size_capability.Lts as lts
-use Rattle.codec.proofs.octets.pair_length.Reads as pair-length-reads
 
--- src/uwb.rt:213:21
 pair-length-requires : tie.Need-pair-length-requires
 pair-length-requires c κs = search needs
 
--- src/uwb.rt:213:16
 add-size : tie.Need-add-size
 add-size c = search needs
 
--- src/uwb.rt:209:1
 returns : tie.Need-returns
 returns c = sized _ _ _ _ _ _ (c .if1 .taken) (omega (arith, c .before .pair-length .ensures .0)) (simp length-append (omega (arith, c .before .pair-length .ensures .1)))
 
--- src/uwb.rt:209:1
 returns-2 : tie.Need-returns-2
 returns-2 c = search needs
 

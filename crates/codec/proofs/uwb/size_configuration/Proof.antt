@@ -4,47 +4,34 @@ use native.Mathlib.Omega.{arith}
 use borrow.Author.Needs.{needs}
 use Rattle.codec.proofs.uwb.size_configuration.Statement.{statement}
 use Rattle.codec.proofs.uwb.size_configuration.Tie as tie
-use Rattle.codec.proofs.uwb.size_configuration.Reads as reads
-use Rattle.codec.proofs.uwb.size_configuration.Lts as lts
-use Rattle.codec.proofs.octets.key_length.Reads as key-length-reads
-use Rattle.codec.proofs.octets.pair_length.Reads as pair-length-reads
 
--- src/uwb.rt:293:13
 cast-k : tie.Need-cast-k
 cast-k c = search needs
 
--- src/uwb.rt:294:22
 pair-length-requires : tie.Need-pair-length-requires
 pair-length-requires c κs = search needs
 
--- src/uwb.rt:294:17
 add-fixed : tie.Need-add-fixed
 add-fixed c = search needs
 
--- src/uwb.rt:294:46
 pair-length-requires-2 : tie.Need-pair-length-requires-2
 pair-length-requires-2 c κs = search needs
 
--- src/uwb.rt:294:17
 add-fixed-2 : tie.Need-add-fixed-2
 add-fixed-2 c = search needs
 
--- src/uwb.rt:295:24
 key-length-requires : tie.Need-key-length-requires
 key-length-requires c κs = search needs
 
--- src/uwb.rt:295:16
 add-size : tie.Need-add-size
 add-size c = search needs
 
--- src/uwb.rt:286:1
 returns : tie.Need-returns
 returns c =
     sized _ _ _ _ _ _ (c .if1 .taken)
     (omega (arith, c .before .before .before .before .before .pair-length .ensures .0, c .before .before .before .pair-length2 .ensures .0, c .before .key-length .ensures .0))
     (simp length-append (omega (arith, c .before .before .before .before .before .pair-length .ensures .1, c .before .before .before .pair-length2 .ensures .1, c .before .key-length .ensures .1)))
 
--- src/uwb.rt:286:1
 returns-2 : tie.Need-returns-2
 returns-2 c = unsized _ _ _ _ _ (c .if1 .left)
 

@@ -2,29 +2,19 @@ use mathlib.Core.Bool.{and-true}
 use borrow.Author.Needs.{needs}
 use Rattle.codec.proofs.uwb.valid_capability.Statement.{statement}
 use Rattle.codec.proofs.uwb.valid_capability.Tie as tie
-use Rattle.codec.proofs.uwb.valid_capability.Reads as reads
-use Rattle.codec.proofs.uwb.valid_capability.Lts as lts
-use Rattle.codec.proofs.octets.inside.Reads as inside-reads
-use Rattle.codec.proofs.uwb.allowed_interval.Reads as allowed-interval-reads
-use Rattle.codec.proofs.uwb.zero_pair.Reads as zero-pair-reads
 
--- src/uwb.rt:196:16
 allowed-interval-requires : tie.Need-allowed-interval-requires
 allowed-interval-requires c κs = search needs
 
--- src/uwb.rt:196:56
 inside-requires : tie.Need-inside-requires
 inside-requires c κs = search needs
 
--- src/uwb.rt:196:9
 returns : tie.Need-returns
 returns c = simp (c .before .before .if1 .taken, c .inside .ensures, c .before .allowed-interval .ensures, and-true)
 
--- src/uwb.rt:199:5
 zero-pair-requires : tie.Need-zero-pair-requires
 zero-pair-requires c κs = search needs
 
--- src/uwb.rt:192:1
 returns-2 : tie.Need-returns-2
 returns-2 c = simp (c .before .before .before .before .before .before .before .before .before .if1 .left, c .before .before .before .before .before .before .zero-pair .ensures, and-true)
 

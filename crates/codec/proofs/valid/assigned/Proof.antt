@@ -3,22 +3,16 @@ use mathlib.Core.Path.{sym}
 use native.Mathlib.Omega.{arith}
 use Rattle.codec.proofs.valid.assigned.Statement.{statement}
 use Rattle.codec.proofs.valid.assigned.Tie as tie
-use Rattle.codec.proofs.valid.assigned.Reads as reads
-use Rattle.codec.proofs.valid.assigned.Lts as lts
 
--- src/valid.rt:16:1
 returns : tie.Need-returns
 returns c = sym (not-assigned _ (λ e. omega arith) (λ e. omega arith) (λ e. omega arith) (λ e. omega arith) (λ e. omega arith) (λ e. omega arith))
 
--- src/valid.rt:16:1
 returns-2 : tie.Need-returns-2
 returns-2 c = sym (not-assigned _ (λ e. omega arith) (λ e. omega arith) (λ e. omega arith) (λ e. omega arith) (λ e. omega arith) (λ e. omega arith))
 
--- src/valid.rt:16:1
 returns-3 : tie.Need-returns-3
 returns-3 c = sym (low-assigned _ (c .if1 .taken))
 
--- src/valid.rt:16:1
 returns-4 : tie.Need-returns-4
 returns-4 c = sym (six-or-seven _ (c .before .if2 .left) (c .if3 .taken) .1)
 

@@ -2,42 +2,29 @@ use Rattle.codec.proofs.ValidCases.{head-wrong, head-right}
 use Rattle.codec.proofs.Laws.{failed, passed}
 use lib.Dec.{ltb}
 use mathlib.Core.Bool.{Bool, _&&_}
-use mathlib.Core.Path.{_≡_, ap, _∙_}
+use mathlib.Core.Path.{ap}
 use borrow.Author.Needs.{needs}
 use Rattle.codec.proofs.valid.valid.Statement.{statement}
 use Rattle.codec.proofs.valid.valid.Tie as tie
-use Rattle.codec.proofs.valid.valid.Reads as reads
-use Rattle.codec.proofs.valid.valid.Lts as lts
-use Rattle.codec.proofs.technology.set_in.Reads as set-in-reads
-use Rattle.codec.proofs.valid.assigned.Reads as assigned-reads
-use Rattle.codec.proofs.valid.valid_capability.Reads as valid-capability-reads
-use Rattle.codec.proofs.valid.valid_configuration.Reads as valid-configuration-reads
 
--- src/valid.rt:49:10
 assigned-requires : tie.Need-assigned-requires
 assigned-requires c κs = search needs
 
--- src/valid.rt:50:9
 returns : tie.Need-returns
 returns c = head-wrong _ (failed (ap (λ (b : Bool). b && ltb (c .before .before .before .args .value .set) 16) (c .before .before .assigned .ensures)) (c .if1 .taken))
 
--- src/valid.rt:52:39
 set-in-requires : tie.Need-set-in-requires
 set-in-requires c κs = search needs
 
--- src/valid.rt:52:9
 valid-capability-requires : tie.Need-valid-capability-requires
 valid-capability-requires c κs = search needs
 
--- src/valid.rt:53:45
 set-in-requires-2 : tie.Need-set-in-requires-2
 set-in-requires-2 c κs = search needs
 
--- src/valid.rt:53:9
 valid-configuration-requires : tie.Need-valid-configuration-requires
 valid-configuration-requires c κs = search needs
 
--- src/valid.rt:46:1
 returns-2 : tie.Need-returns-2
 returns-2 c =
     rw (c .before .before .valid-capability .ensures, c .valid-configuration .ensures, c .before .before .before .set-in .ensures, c .before .set-in2 .ensures)

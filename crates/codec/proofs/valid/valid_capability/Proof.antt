@@ -2,47 +2,31 @@ use Rattle.codec.specs.Valid.{validColumn}
 use borrow.Author.Needs.{needs}
 use Rattle.codec.proofs.valid.valid_capability.Statement.{statement}
 use Rattle.codec.proofs.valid.valid_capability.Tie as tie
-use Rattle.codec.proofs.valid.valid_capability.Reads as reads
-use Rattle.codec.proofs.valid.valid_capability.Lts as lts
-use Rattle.codec.proofs.cs.valid_capability.Reads as cs-valid-capability-reads
-use Rattle.codec.proofs.nan.valid_capability.Reads as nan-valid-capability-reads
-use Rattle.codec.proofs.rssi.valid_block.Reads as valid-block-reads
-use Rattle.codec.proofs.technology.has.Reads as has-reads
-use Rattle.codec.proofs.uwb.valid_capability.Reads as uwb-valid-capability-reads
 
--- src/valid.rt:29:37
 has-requires : tie.Need-has-requires
 has-requires c κs = search needs
 
--- src/valid.rt:29:9
 valid-capability-requires : tie.Need-valid-capability-requires
 valid-capability-requires c κs = search needs
 
--- src/valid.rt:30:35
 has-requires-2 : tie.Need-has-requires-2
 has-requires-2 c κs = search needs
 
--- src/valid.rt:30:9
 valid-capability-requires-2 : tie.Need-valid-capability-requires-2
 valid-capability-requires-2 c κs = search needs
 
--- src/valid.rt:31:37
 has-requires-3 : tie.Need-has-requires-3
 has-requires-3 c κs = search needs
 
--- src/valid.rt:31:9
 valid-capability-requires-3 : tie.Need-valid-capability-requires-3
 valid-capability-requires-3 c κs = search needs
 
--- src/valid.rt:32:34
 has-requires-4 : tie.Need-has-requires-4
 has-requires-4 c κs = search needs
 
--- src/valid.rt:32:9
 valid-block-requires : tie.Need-valid-block-requires
 valid-block-requires c κs = search needs
 
--- src/valid.rt:26:1
 returns : tie.Need-returns
 unfolding validColumn
 returns c = rw (c .before .before .before .before .before .before .valid-capability .ensures, c .before .before .before .before .valid-capability2 .ensures, c .before .before .valid-capability3 .ensures, c .valid-block .ensures, c .before .before .before .before .before .before .before .has .ensures, c .before .before .before .before .before .has2 .ensures, c .before .before .before .has3 .ensures, c .before .has4 .ensures)
