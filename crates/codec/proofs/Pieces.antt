@@ -9,7 +9,7 @@ use lib.ListN.{length, length-append}
 use borrow.Author.Tests.{eqb-true, ne-eqb, lt-leb, le-leb}
 use Rattle.codec.specs.Octets.{toLE, allZero}
 use Rattle.codec.specs.Layout.{Layout, number, octets, counted, test, spelled, Values, allowed, cleared, zeroed}
-use Rattle.codec.specs.Blocks.{uwbConfiguration, csConfiguration, nanConfiguration}
+use Rattle.codec.specs.Blocks.{csCapability, uwbConfiguration, csConfiguration, nanConfiguration}
 use Rattle.codec.specs.Technology.{bit}
 use Rattle.codec.specs.Records.{Column, capabilities, configurations, ofConfiguration}
 use Rattle.codec.specs.Message.{assigned}
@@ -91,6 +91,15 @@ module _ {A : Type 0} (C : Column A) (set : ℕ) (a : A) where
 
           pub put-column : {v : Bool} → v ≡ bit set 3 → {i : List ℕ} {w : ℕ} → Put g z (blockIf v (C .layouts 3) 3 (C .fields a 3)) i w → Put d at (columnOctets C set a) i w
           put-column m rssi = put-then put-uwb (put-then put-cs (put-then put-nan (rw m at rssi)))
+
+-- the two blocks of CS have the same octets
+pub cs-sized : (present : Bool) (x : ℕ) (a : List ℕ) {size r : ℕ} → Sized present csCapability 1 (x, (a, tt)) size r → Sized present csConfiguration 1 (x, (a, tt)) size r
+cs-sized true x a s = record { is = s .is; long = s .long }
+cs-sized false x a s = record { is = s .is; long = s .long }
+
+pub cs-put : (present : Bool) (x : ℕ) (a : List ℕ) {d e : List ℕ} {at next : ℕ} → Put d at (blockIf present csCapability 1 (x, (a, tt))) e next → Put d at (blockIf present csConfiguration 1 (x, (a, tt))) e next
+cs-put true x a p = p
+cs-put false x a p = p
 
 -- the normal form by message
 module _ (r : Record) where

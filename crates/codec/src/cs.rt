@@ -8,7 +8,7 @@ use crate::octets::zero_from;
 use crate::refusal::NOT_ALLOWED;
 ghost use mathlib.Core.Path.{_≡_};
 ghost use mathlib.Core.Bool.{cond};
-ghost use Prim.Native.Nat.{_+_, _≤_};
+ghost use Prim.Native.Nat.{ℕ, _+_, _≤_};
 ghost use lib.ListN.{length};
 ghost use Rattle.codec.specs.Refusal.{numberIn};
 ghost use Rattle.codec.specs.Layout.{value, fault};
@@ -73,30 +73,6 @@ pub(crate) fn valid_capability(present: bool, v: CsCapability) -> bool
     (v.security_types == 0) & zero_from(&address, 0)
 }
 
-// How many octets the block takes.
-pub(crate) fn size_capability(present: bool, v: CsCapability) -> usize
-    ensures { λ r. ⌜ Sized present csCapability 1 (ofCsCapability v) 9 r ⌝ }
-{
-    let address = v.address;
-    let size = 3 + address_length(&address);
-    if present { size } else { 0 }
-}
-
-// Writes the block where the technology is present.
-pub(crate) fn put_capability(present: bool, v: CsCapability, out: &mut [u8], at: usize) -> usize
-    requires { ⌜ at + cond present 9 0 ≤ length (now out) ⌝ }
-    ensures { λ r. ⌜ Put (now (out .entry)) at (blockIf present csCapability 1 (ofCsCapability v)) (now (out .exit)) r ⌝ }
-{
-    if !present {
-        return at;
-    }
-    let address = v.address;
-    let size = put(out, at, 1);
-    let fields = put(out, size, 9);
-    let next = put(out, fields, v.security_types);
-    put_address(out, next, &address)
-}
-
 pub(crate) fn valid_configuration(present: bool, v: CsConfiguration) -> bool
     ensures { λ r. ⌜ r ≡ validFields csConfiguration present (ofCsConfiguration v) ⌝ }
 {
@@ -107,30 +83,30 @@ pub(crate) fn valid_configuration(present: bool, v: CsConfiguration) -> bool
     (v.security_level == 0) & zero_from(&address, 0)
 }
 
-// How many octets the block takes.
-pub(crate) fn size_configuration(present: bool, v: CsConfiguration) -> usize
-    ensures { λ r. ⌜ Sized present csConfiguration 1 (ofCsConfiguration v) 9 r ⌝ }
+// How many octets either block takes: both are an octet and an address.
+pub(crate) fn size_block(present: bool, address: [u8; 6]) -> usize
+    ensures { λ r. ⌜ ((x : ℕ) → Sized present csCapability 1 (x, (address, tt)) 9 r) ⌝ }
 {
-    let address = v.address;
     let size = 3 + address_length(&address);
     if present { size } else { 0 }
 }
 
-pub(crate) fn put_configuration(
+// Writes either block where the technology is present.
+pub(crate) fn put_block(
     present: bool,
-    v: CsConfiguration,
+    security: u8,
+    address: [u8; 6],
     out: &mut [u8],
     at: usize,
 ) -> usize
     requires { ⌜ at + cond present 9 0 ≤ length (now out) ⌝ }
-    ensures { λ r. ⌜ Put (now (out .entry)) at (blockIf present csConfiguration 1 (ofCsConfiguration v)) (now (out .exit)) r ⌝ }
+    ensures { λ r. ⌜ Put (now (out .entry)) at (blockIf present csCapability 1 (security, (address, tt))) (now (out .exit)) r ⌝ }
 {
     if !present {
         return at;
     }
-    let address = v.address;
     let size = put(out, at, 1);
     let fields = put(out, size, 9);
-    let next = put(out, fields, v.security_level);
+    let next = put(out, fields, security);
     put_address(out, next, &address)
 }

@@ -25,7 +25,8 @@ fn size_capability(set: u16, c: Capability) -> usize
     ensures { λ r. ⌜ (r ≡ length (columnOctets capabilities set c)) × (r ≤ 43) × LongCapability set c ⌝ }
 {
     let uwb = uwb::size_capability(has(set, 0), c.uwb);
-    let cs = cs::size_capability(has(set, 1), c.cs);
+    let address = c.cs.address;
+    let cs = cs::size_block(has(set, 1), address);
     let nan = nan::size_capability(has(set, 2), c.nan);
     let rssi = rssi::size_block(has(set, 3), c.rssi);
     uwb + (cs + (nan + rssi))
@@ -37,7 +38,8 @@ fn size_configuration(set: u16, c: Configuration) -> usize
     ensures { λ r. ⌜ (r ≡ length (columnOctets configurations set c)) × (r ≤ 137) × LongConfiguration set c ⌝ }
 {
     let uwb = uwb::size_configuration(has(set, 0), c.uwb);
-    let cs = cs::size_configuration(has(set, 1), c.cs);
+    let address = c.cs.address;
+    let cs = cs::size_block(has(set, 1), address);
     let nan = nan::size_configuration(has(set, 2), c.nan);
     let rssi = rssi::size_block(has(set, 3), c.rssi);
     uwb + (cs + (nan + rssi))
@@ -62,8 +64,9 @@ fn put_capability(set: u16, c: Capability, out: &mut [u8], at: usize) -> usize
     requires { ⌜ (at + length (columnOctets capabilities set c) ≤ length (now out)) × LongCapability set c ⌝ }
     ensures { λ r. ⌜ Put (now (out .entry)) at (columnOctets capabilities set c) (now (out .exit)) r ⌝ }
 {
+    let address = c.cs.address;
     let cs = uwb::put_capability(has(set, 0), c.uwb, out, at);
-    let nan = cs::put_capability(has(set, 1), c.cs, out, cs);
+    let nan = cs::put_block(has(set, 1), c.cs.security_types, address, out, cs);
     let rssi = nan::put_capability(has(set, 2), c.nan, out, nan);
     rssi::put_block(has(set, 3), c.rssi, out, rssi)
 }
@@ -73,8 +76,9 @@ fn put_configuration(set: u16, c: Configuration, out: &mut [u8], at: usize) -> u
     requires { ⌜ (at + length (columnOctets configurations set c) ≤ length (now out)) × LongConfiguration set c × Fit c ⌝ }
     ensures { λ r. ⌜ Put (now (out .entry)) at (columnOctets configurations set c) (now (out .exit)) r ⌝ }
 {
+    let address = c.cs.address;
     let cs = uwb::put_configuration(has(set, 0), c.uwb, out, at);
-    let nan = cs::put_configuration(has(set, 1), c.cs, out, cs);
+    let nan = cs::put_block(has(set, 1), c.cs.security_level, address, out, cs);
     let rssi = nan::put_configuration(has(set, 2), c.nan, out, nan);
     rssi::put_block(has(set, 3), c.rssi, out, rssi)
 }

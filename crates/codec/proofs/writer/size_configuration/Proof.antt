@@ -1,3 +1,4 @@
+use Rattle.codec.proofs.Pieces.{sized-column, cs-sized}
 use native.Mathlib.Omega.{arith}
 use Rattle.codec.specs.Records.{configurations}
 use Rattle.codec.proofs.Pieces.{sized-column}
@@ -14,32 +15,32 @@ size-configuration-requires c κs = search needs
 has-requires-2 : tie.Need-has-requires-2
 has-requires-2 c κs = search needs
 
-size-configuration-requires-2 : tie.Need-size-configuration-requires-2
-size-configuration-requires-2 c κs = search needs
+size-block-requires : tie.Need-size-block-requires
+size-block-requires c κs = search needs
 
 has-requires-3 : tie.Need-has-requires-3
 has-requires-3 c κs = search needs
 
-size-configuration-requires-3 : tie.Need-size-configuration-requires-3
-size-configuration-requires-3 c κs = search needs
+size-configuration-requires-2 : tie.Need-size-configuration-requires-2
+size-configuration-requires-2 c κs = search needs
 
 has-requires-4 : tie.Need-has-requires-4
 has-requires-4 c κs = search needs
 
-size-block-requires : tie.Need-size-block-requires
-size-block-requires c κs = search needs
+size-block-requires-2 : tie.Need-size-block-requires-2
+size-block-requires-2 c κs = search needs
 
 add-result : tie.Need-add-result
-add-result c = omega (arith, (sized-column configurations (c .before .before .before .before .before .before .before .before .args .set) (c .before .before .before .before .before .before .before .before .args .c) (c .before .before .before .before .before .before .before .has .ensures) (c .before .before .before .before .before .has2 .ensures) (c .before .before .before .has3 .ensures) (c .before .has4 .ensures) (c .before .before .before .before .before .before .size-configuration .ensures) (c .before .before .before .before .size-configuration2 .ensures) (c .before .before .size-configuration3 .ensures) (c .size-block .ensures)) .1, c .before .before .before .before .before .before .before .before .pre .0, c .before .before .before .before .before .before .before .before .pre .1)
+add-result c = omega (arith, (sized-column configurations (c .before .before .before .before .before .before .before .before .before .args .set) (c .before .before .before .before .before .before .before .before .before .args .c) (c .before .before .before .before .before .before .before .before .has .ensures) (c .before .before .before .before .before .has2 .ensures) (c .before .before .before .has3 .ensures) (c .before .has4 .ensures) (c .before .before .before .before .before .before .before .size-configuration .ensures) (cs-sized (c .before .before .before .before .before .has2 .result) (c .before .before .before .before .before .before .before .before .before .args .c .cs .«security_level») (c .before .before .before .before .before .before .before .before .before .args .c .cs .address) (c .before .before .before .before .size-block .ensures (c .before .before .before .before .before .before .before .before .before .args .c .cs .«security_level»))) (c .before .before .size-configuration2 .ensures) (c .size-block2 .ensures)) .1, c .before .before .before .before .before .before .before .before .before .pre .0, c .before .before .before .before .before .before .before .before .before .pre .1)
 
 add-result-2 : tie.Need-add-result-2
-add-result-2 c = omega (arith, (sized-column configurations (c .before .before .before .before .before .before .before .before .args .set) (c .before .before .before .before .before .before .before .before .args .c) (c .before .before .before .before .before .before .before .has .ensures) (c .before .before .before .before .before .has2 .ensures) (c .before .before .before .has3 .ensures) (c .before .has4 .ensures) (c .before .before .before .before .before .before .size-configuration .ensures) (c .before .before .before .before .size-configuration2 .ensures) (c .before .before .size-configuration3 .ensures) (c .size-block .ensures)) .1, c .before .before .before .before .before .before .before .before .pre .0, c .before .before .before .before .before .before .before .before .pre .1)
+add-result-2 c = omega (arith, (sized-column configurations (c .before .before .before .before .before .before .before .before .before .args .set) (c .before .before .before .before .before .before .before .before .before .args .c) (c .before .before .before .before .before .before .before .before .has .ensures) (c .before .before .before .before .before .has2 .ensures) (c .before .before .before .has3 .ensures) (c .before .has4 .ensures) (c .before .before .before .before .before .before .before .size-configuration .ensures) (cs-sized (c .before .before .before .before .before .has2 .result) (c .before .before .before .before .before .before .before .before .before .args .c .cs .«security_level») (c .before .before .before .before .before .before .before .before .before .args .c .cs .address) (c .before .before .before .before .size-block .ensures (c .before .before .before .before .before .before .before .before .before .args .c .cs .«security_level»))) (c .before .before .size-configuration2 .ensures) (c .size-block2 .ensures)) .1, c .before .before .before .before .before .before .before .before .before .pre .0, c .before .before .before .before .before .before .before .before .before .pre .1)
 
 add-result-3 : tie.Need-add-result-3
-add-result-3 c = omega (arith, (sized-column configurations (c .before .before .before .before .before .before .before .before .args .set) (c .before .before .before .before .before .before .before .before .args .c) (c .before .before .before .before .before .before .before .has .ensures) (c .before .before .before .before .before .has2 .ensures) (c .before .before .before .has3 .ensures) (c .before .has4 .ensures) (c .before .before .before .before .before .before .size-configuration .ensures) (c .before .before .before .before .size-configuration2 .ensures) (c .before .before .size-configuration3 .ensures) (c .size-block .ensures)) .1, c .before .before .before .before .before .before .before .before .pre .0, c .before .before .before .before .before .before .before .before .pre .1)
+add-result-3 c = omega (arith, (sized-column configurations (c .before .before .before .before .before .before .before .before .before .args .set) (c .before .before .before .before .before .before .before .before .before .args .c) (c .before .before .before .before .before .before .before .before .has .ensures) (c .before .before .before .before .before .has2 .ensures) (c .before .before .before .has3 .ensures) (c .before .has4 .ensures) (c .before .before .before .before .before .before .before .size-configuration .ensures) (cs-sized (c .before .before .before .before .before .has2 .result) (c .before .before .before .before .before .before .before .before .before .args .c .cs .«security_level») (c .before .before .before .before .before .before .before .before .before .args .c .cs .address) (c .before .before .before .before .size-block .ensures (c .before .before .before .before .before .before .before .before .before .args .c .cs .«security_level»))) (c .before .before .size-configuration2 .ensures) (c .size-block2 .ensures)) .1, c .before .before .before .before .before .before .before .before .before .pre .0, c .before .before .before .before .before .before .before .before .before .pre .1)
 
 returns : tie.Need-returns
-returns c = let a = sized-column configurations (c .before .before .before .before .before .before .before .before .args .set) (c .before .before .before .before .before .before .before .before .args .c) (c .before .before .before .before .before .before .before .has .ensures) (c .before .before .before .before .before .has2 .ensures) (c .before .before .before .has3 .ensures) (c .before .has4 .ensures) (c .before .before .before .before .before .before .size-configuration .ensures) (c .before .before .before .before .size-configuration2 .ensures) (c .before .before .size-configuration3 .ensures) (c .size-block .ensures) in (a .0, omega (arith, a .1, c .before .before .before .before .before .before .before .before .pre .0, c .before .before .before .before .before .before .before .before .pre .1), a .2)
+returns c = let a = sized-column configurations (c .before .before .before .before .before .before .before .before .before .args .set) (c .before .before .before .before .before .before .before .before .before .args .c) (c .before .before .before .before .before .before .before .before .has .ensures) (c .before .before .before .before .before .has2 .ensures) (c .before .before .before .has3 .ensures) (c .before .has4 .ensures) (c .before .before .before .before .before .before .before .size-configuration .ensures) (cs-sized (c .before .before .before .before .before .has2 .result) (c .before .before .before .before .before .before .before .before .before .args .c .cs .«security_level») (c .before .before .before .before .before .before .before .before .before .args .c .cs .address) (c .before .before .before .before .size-block .ensures (c .before .before .before .before .before .before .before .before .before .args .c .cs .«security_level»))) (c .before .before .size-configuration2 .ensures) (c .size-block2 .ensures) in (a .0, omega (arith, a .1, c .before .before .before .before .before .before .before .before .before .pre .0, c .before .before .before .before .before .before .before .before .before .pre .1), a .2)
 
 pub size-configuration-spec : {M : Type 1} → statement M
 size-configuration-spec =
@@ -48,11 +49,11 @@ size-configuration-spec =
     has-requires
     size-configuration-requires
     has-requires-2
-    size-configuration-requires-2
-    has-requires-3
-    size-configuration-requires-3
-    has-requires-4
     size-block-requires
+    has-requires-3
+    size-configuration-requires-2
+    has-requires-4
+    size-block-requires-2
     add-result
     add-result-2
     add-result-3
