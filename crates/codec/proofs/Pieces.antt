@@ -15,7 +15,8 @@ use Rattle.codec.specs.Records.{Column, capabilities, configurations, of
 use Rattle.codec.specs.Message.{assigned}
 use Rattle.codec.specs.Valid.{validFields, setIn, validColumn, valid}
 use Rattle.codec.specs.NormalForm.{block, rising, columnBlocks, normal}
-use Rattle.codec.specs.Writing.{writing, Writes, over, Put, blockIf, columnOctets, Sized, Long, LongCapability, LongConfiguration, LongRecord, Fit}
+use Rattle.codec.specs.Writing.{writing, Writes}
+use Rattle.codec.specs.Puts.{over, Put, blockIf, columnOctets, Sized, Long, LongCapability, LongConfiguration, LongRecord, Fit}
 use Rattle.codec.specs.declared.records.Record.{Record}
 use Rattle.codec.proofs.Outcomes.{and-true}
 use Rattle.codec.proofs.Layouts.{fits, within, within-le}

@@ -10,7 +10,7 @@ use borrow.Author.Tests.{not-true, not-false}
 use mathlib.Core.Bool.{Bool, true, false, not, cond}
 use Rattle.codec.specs.Octets.{toLE}
 use Rattle.codec.specs.Layout.{Layout, Values, write}
-use Rattle.codec.specs.Writing.{over, Put, Sized, blockIf}
+use Rattle.codec.specs.Puts.{over, Put, Sized, blockIf}
 
 module _ (d : List ℕ) (at : ℕ) where
   length-over : (ws : List ℕ) → at + length ws ≤ length d → length (over d at ws) ≡ length d

@@ -11,3 +11,4 @@ pub mod NormalForm
 pub mod Writing
 pub mod Starred
 pub mod Places
+pub mod Puts

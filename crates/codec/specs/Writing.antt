@@ -1,22 +1,12 @@
 -- Writing a record into a lent buffer.
-use Prim.Native.Nat.{ℕ, _+_, _≤_}
-use mathlib.Core.Bool.{Bool, true, false, cond}
+use Prim.Native.Nat.{ℕ}
 use mathlib.Core.Path.{_≡_}
-use mathlib.Core.List.{List, [], _∷_, _++_}
+use mathlib.Core.List.{List, _++_}
 use lib.Dec.{leb}
-use lib.ListN.{length, take, drop}
-use Rattle.codec.specs.Octets.{toLE}
+use lib.ListN.{length, drop}
 use Rattle.codec.specs.Refusal.{Checked, refuse, accept, demand, numberOf, bufferTooShort, notValid}
-use Rattle.codec.specs.Layout.{Layout, Values}
-use Rattle.codec.specs.Blocks.{uwbAfterKey}
-use Rattle.codec.specs.Technology.{bit}
-use Rattle.codec.specs.Records.{Column, capabilities, configurations}
 use Rattle.codec.specs.Valid.{valid}
-use Rattle.codec.specs.NormalForm.{block, normal}
-use Rattle.codec.specs.declared.uwb.UwbCapability.{UwbCapability}
-use Rattle.codec.specs.declared.uwb.UwbConfiguration.{UwbConfiguration}
-use Rattle.codec.specs.declared.records.Capability.{Capability}
-use Rattle.codec.specs.declared.records.Configuration.{Configuration}
+use Rattle.codec.specs.NormalForm.{normal}
 use Rattle.codec.specs.declared.records.Record.{Record}
 use Rattle.codec.specs.declared.records.Written.{Written}
 
@@ -27,7 +17,7 @@ writing r n =
     (demand (leb (length (normal r)) n) bufferTooShort
     (accept (normal r)))
 
--- the answer: a refusal's number and 0 octets, or 0 and the octets written
+-- the answer: a refusal's number and 0 octets, or 0 and how many octets were written
 abbrev pub written : Checked (List ℕ) → Written
 written (refuse x) = record { refusal = numberOf x; length = 0 }
 written (accept w) = record { refusal = 0; length = length w }
@@ -41,68 +31,3 @@ buffer (accept w) d = w ++ drop (length w) d
 pub record Writes (r : Record) (d : List ℕ) (answer : Written) (e : List ℕ) : Type 0 where
   pub answers : answer ≡ written (writing r (length d))
   pub leaves : e ≡ buffer (writing r (length d)) d
-
--- ---- for the inner functions
-
--- d with octets from a place on
-unfoldable pub over : List ℕ → ℕ → List ℕ → List ℕ
-over d at ws = take at d ++ (ws ++ drop (at + length ws) d)
-
--- e is d with ws from a place on, where there is room for them, and next is the place after them
-pub record Put (d : List ℕ) (at : ℕ) (ws : List ℕ) (e : List ℕ) (next : ℕ) : Type 0 where
-  pub place : next ≡ at + length ws
-  pub wrote : e ≡ over d at ws
-  pub same : length e ≡ length d
-  pub room : at + length ws ≤ length d
-
--- the octets of a block, if it is there
-abbrev pub blockIf : Bool → (L : Layout) → ℕ → Values L → List ℕ
-blockIf true L id v = block L id v
-blockIf false L id v = []
-
--- r octets are what a block takes, if it is there
-pub record Sized (present : Bool) (L : Layout) (id : ℕ) (v : Values L) (size r : ℕ) : Type 0 where
-  pub is : r ≡ cond present size 0
-  pub long : length (blockIf present L id v) ≡ cond present size 0
-
--- the octets of UWB's sets of channels, preamble indexes and config IDs
-abbrev pub setOctets : UwbCapability → List ℕ
-setOctets v = toLE 4 (v .channels .0) ++ (toLE 4 (v .«preamble_indexes» .0) ++ toLE 4 (v .«config_ids» .0))
-
--- the octets of the fields between UWB's address and its key length
-abbrev pub beforeKey : UwbConfiguration → List ℕ
-beforeKey v = toLE 4 (v .«session_id») ++ (v .«config_id» .0 ∷ (v .channel .0 ∷ (v .«preamble_index» .0 ∷ (toLE 2 (v .interval) ++ (v .slot ∷ [])))))
-
--- the fields after UWB's key
-abbrev pub afterKey : UwbConfiguration → Values uwbAfterKey
-afterKey v = (v .country, (v .role, (v .mode, tt)))
-
--- the octets of a column's blocks
-abbrev pub columnOctets : {A : Type 0} → Column A → ℕ → A → List ℕ
-columnOctets C set a =
-    blockIf (bit set 0) (C .layouts 0) 0 (C .fields a 0)
-    ++ (blockIf (bit set 1) (C .layouts 1) 1 (C .fields a 1)
-    ++ (blockIf (bit set 2) (C .layouts 2) 2 (C .fields a 2)
-    ++ blockIf (bit set 3) (C .layouts 3) 3 (C .fields a 3)))
-
--- how long the block of each technology is, if it is there
-pub record Long {A : Type 0} (C : Column A) (set : ℕ) (a : A) (u c n s : ℕ) : Type 0 where
-  pub uwb : length (blockIf (bit set 0) (C .layouts 0) 0 (C .fields a 0)) ≡ cond (bit set 0) u 0
-  pub cs : length (blockIf (bit set 1) (C .layouts 1) 1 (C .fields a 1)) ≡ cond (bit set 1) c 0
-  pub nan : length (blockIf (bit set 2) (C .layouts 2) 2 (C .fields a 2)) ≡ cond (bit set 2) n 0
-  pub rssi : length (blockIf (bit set 3) (C .layouts 3) 3 (C .fields a 3)) ≡ cond (bit set 3) s 0
-
-abbrev pub LongCapability : ℕ → Capability → Type 0
-LongCapability set c = Long capabilities set c 20 9 6 8
-
-abbrev pub LongConfiguration : ℕ → Configuration → Type 0
-LongConfiguration set c = Long configurations set c (19 + c .uwb .«key_length») 9 (5 + c .nan .«name_length») 8
-
--- the key and the name of a Configuration fit their arrays
-abbrev pub Fit : Configuration → Type 0
-Fit c = (c .uwb .«key_length» ≤ 32) × (c .nan .«name_length» ≤ 64)
-
--- how long the blocks of a record's message are
-pub record LongRecord (r : Record) : Type 0 where
-  pub capability : r .id ≡ 1 → LongCapability (r .set) (r .capability)
-  pub configuration : r .id ≡ 2 → LongConfiguration (r .set) (r .configuration)

@@ -15,7 +15,7 @@ ghost use Rattle.codec.specs.Layout.{value, fault};
 ghost use Rattle.codec.specs.Blocks.{csCapability, csConfiguration};
 ghost use Rattle.codec.specs.Records.{toCsCapability, toCsConfiguration, ofCsCapability, ofCsConfiguration};
 ghost use Rattle.codec.specs.Valid.{validFields};
-ghost use Rattle.codec.specs.Writing.{Put, Sized, blockIf};
+ghost use Rattle.codec.specs.Puts.{Put, Sized, blockIf};
 ghost use Rattle.codec.specs.Places.{Roomy};
 
 #[repr(C)]

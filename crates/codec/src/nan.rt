@@ -16,7 +16,7 @@ ghost use Rattle.codec.specs.Layout.{value, fault};
 ghost use Rattle.codec.specs.Blocks.{nanCapability, nanConfiguration};
 ghost use Rattle.codec.specs.Records.{toNanCapability, toNanConfiguration, ofNanCapability, ofNanConfiguration};
 ghost use Rattle.codec.specs.Valid.{validFields};
-ghost use Rattle.codec.specs.Writing.{Put, Sized, blockIf};
+ghost use Rattle.codec.specs.Puts.{Put, Sized, blockIf};
 ghost use Rattle.codec.specs.Places.{Roomy};
 
 #[repr(C)]

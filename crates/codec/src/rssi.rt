@@ -12,7 +12,7 @@ ghost use Rattle.codec.specs.Layout.{value};
 ghost use Rattle.codec.specs.Blocks.{rssiBlock};
 ghost use Rattle.codec.specs.Records.{toRssi, ofRssi};
 ghost use Rattle.codec.specs.Valid.{validFields};
-ghost use Rattle.codec.specs.Writing.{Put, Sized, blockIf};
+ghost use Rattle.codec.specs.Puts.{Put, Sized, blockIf};
 ghost use Rattle.codec.specs.Places.{Roomy};
 
 #[repr(C)]

@@ -25,7 +25,7 @@ ghost use Rattle.codec.specs.Layout.{member, inside, alphabetic, test, z
 ghost use Rattle.codec.specs.Blocks.{interval, uwbCapability, uwbConfiguration, uwbAfterKey};
 ghost use Rattle.codec.specs.Records.{toUwbCapability, toUwbConfiguration, ofUwbCapability, ofUwbConfiguration};
 ghost use Rattle.codec.specs.Valid.{validFields};
-ghost use Rattle.codec.specs.Writing.{Put, Sized, blockIf, setOctets, beforeKey, afterKey};
+ghost use Rattle.codec.specs.Puts.{Put, Sized, blockIf, setOctets, beforeKey, afterKey};
 ghost use Rattle.codec.specs.Places.{Roomy};
 
 #[repr(C)]

@@ -18,7 +18,8 @@ ghost use Prim.Native.Nat.{_+_, _≤_};
 ghost use lib.ListN.{length};
 ghost use Rattle.codec.specs.Records.{capabilities, configurations};
 ghost use Rattle.codec.specs.NormalForm.{normal};
-ghost use Rattle.codec.specs.Writing.{Writes, Put, columnOctets, LongCapability, LongConfiguration, LongRecord, Fit};
+ghost use Rattle.codec.specs.Writing.{Writes};
+ghost use Rattle.codec.specs.Puts.{Put, columnOctets, LongCapability, LongConfiguration, LongRecord, Fit};
 
 // How many octets the blocks of a set take in message 1.
 fn size_capability(set: u16, c: Capability) -> usize
