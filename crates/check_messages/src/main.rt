@@ -3,7 +3,7 @@
 use libc::STDOUT_FILENO;
 ghost use mathlib.Core.Path.{_≡_};
 ghost use lib.ListN.{length};
-ghost use Rattle.check_messages.specs.Same.{starts};
+ghost use Rattle.check_messages.specs.Starts.{starts};
 
 fn print(text: &[u8]) {
     io::write_all(STDOUT_FILENO, text);

@@ -1,4 +1,4 @@
-use Rattle.check_messages.specs.Same.{starts}
+use Rattle.check_messages.specs.Starts.{starts}
 use borrow.Author.Tests.{eq-eqb, ne-eqb}
 use lib.Seq.{drop-cons}
 use lib.ListN.{length, drop, drop-of-length-le}

@@ -1,10 +1,9 @@
--- Whether octets came back.
+-- Whether a message stands at the start of a buffer.
 use Prim.Native.Nat.{ℕ}
 use mathlib.Core.Bool.{Bool, true, false, _&&_}
 use mathlib.Core.List.{List, [], _∷_}
 use lib.Dec.{eqb}
 
--- the octets are at the start of a buffer
 unfoldable pub starts : List ℕ → List ℕ → Bool
 starts [] b = true
 starts (x ∷ a) [] = false
