@@ -1,19 +1,14 @@
-/* Measures raydulcimer_read on one message.
+/* Measures the library's read or write of one message.
 
-   read NAME          calls it once, for callgrind to count its instructions
-   read stack NAME    prints how many octets of stack the call used, beside the returned reading
+   codec read|write NAME          calls it once, for callgrind to count its instructions
+   codec stack read|write NAME    prints how many octets of stack the call used, beside its arguments and its result
 
    NAME is request, response, configuration, or sixteen (a Capability Response of sixteen blocks). */
 #define _GNU_SOURCE
-#include <stdint.h>
 #include <stdio.h>
 #include <string.h>
 #include <ucontext.h>
-
-/* Room for a reading. By the platform's C rules a struct of this size is returned through a pointer that the caller
-   passes first: declared so, no copy on this side counts towards the measured call. */
-static uint8_t reading[512];
-extern void *raydulcimer_read(void *result, const uint8_t *message, size_t length);
+#include "raydulcimer.h"
 
 static const uint8_t request[] = {1, 0, 9, 0};
 static const uint8_t response[] = {
@@ -55,11 +50,33 @@ static int choose(const char *name)
     return 1;
 }
 
+typedef struct raydulcimer_reading reader(const uint8_t *, size_t);
+typedef struct raydulcimer_written writer(struct raydulcimer_record, uint8_t *, size_t);
+
+static struct raydulcimer_reading reading;
+static struct raydulcimer_written written;
+static uint8_t out[RAYDULCIMER_MESSAGE_LIMIT];
+
+/* With the same arguments and result as the measured calls, and no stack of their own. */
+static struct raydulcimer_reading no_reader(const uint8_t *m, size_t n)
+{
+    (void)m, (void)n;
+    return reading;
+}
+
+static struct raydulcimer_written no_writer(struct raydulcimer_record r, uint8_t *o, size_t n)
+{
+    (void)r, (void)o, (void)n;
+    return written;
+}
+
+static reader *volatile read = raydulcimer_read;
+static writer *volatile write = raydulcimer_write;
+static void call_read(void) { reading = read(message, length); }
+static void call_write(void) { written = write(reading.value, out, sizeof out); }
+
 static ucontext_t here, there;
 static uint8_t stack[1 << 16];
-
-static void nothing(void) {}
-static void call(void) { raydulcimer_read(reading, message, length); }
 
 /* The octets of a painted stack that a function used. */
 static size_t used(void (*f)(void))
@@ -78,16 +95,22 @@ static size_t used(void (*f)(void))
 
 int main(int argc, char **argv)
 {
-    if (argc == 3 && !strcmp(argv[1], "stack") && choose(argv[2])) {
-        size_t empty = used(nothing);
+    int stacked = argc == 4 && !strcmp(argv[1], "stack");
+    if (argc != 3 + stacked || !choose(argv[2 + stacked])) {
+        fprintf(stderr, "usage: codec [stack] read|write request|response|configuration|sixteen\n");
+        return 2;
+    }
+    void (*call)(void) = call_read;
+    if (!strcmp(argv[1 + stacked], "write")) {
+        call_read();
+        call = call_write;
+    }
+    if (stacked) {
         size_t full = used(call);
-        printf("%zu\n", full - empty);
-        return reading[0] != 0;
-    }
-    if (argc == 2 && choose(argv[1])) {
+        read = no_reader, write = no_writer;
+        printf("%zu\n", full - used(call));
+    } else {
         call();
-        return reading[0] != 0;
     }
-    fprintf(stderr, "usage: read [stack] request|response|configuration|sixteen\n");
-    return 2;
+    return reading.refusal != 0 || written.refusal != 0;
 }
