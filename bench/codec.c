@@ -1,7 +1,7 @@
-/* Measures the library's read or write of one message.
+/* Measures a read or write of one message by the proved library or by the second implementation.
 
-   codec read|write NAME          calls it once, for callgrind to count its instructions
-   codec stack read|write NAME    prints how many octets of stack the call used, beside its arguments and its result
+   codec proved|second read|write NAME          calls it once, for callgrind to count its instructions
+   codec stack proved|second read|write NAME    prints how many octets of stack the call used, beside its arguments and result
 
    NAME is request, response, configuration, or sixteen (a Capability Response of sixteen blocks). */
 #define _GNU_SOURCE
@@ -50,30 +50,42 @@ static int choose(const char *name)
     return 1;
 }
 
-typedef struct raydulcimer_reading reader(const uint8_t *, size_t);
-typedef struct raydulcimer_written writer(struct raydulcimer_record, uint8_t *, size_t);
+/* What the second implementation returns is handed on without looking into it; it has fewer octets. */
+struct second_reading {
+    uint8_t octets[256];
+};
+struct second_reading second_read(const uint8_t *message, size_t length);
+size_t second_write(const struct second_reading *value, uint8_t *out, size_t length);
 
 static struct raydulcimer_reading reading;
+static struct second_reading second;
 static struct raydulcimer_written written;
 static uint8_t out[RAYDULCIMER_MESSAGE_LIMIT];
 
-/* With the same arguments and result as the measured calls, and no stack of their own. */
-static struct raydulcimer_reading no_reader(const uint8_t *m, size_t n)
-{
-    (void)m, (void)n;
-    return reading;
-}
-
-static struct raydulcimer_written no_writer(struct raydulcimer_record r, uint8_t *o, size_t n)
+/* With the same arguments and results as the measured calls, and no stack of their own. */
+static struct raydulcimer_reading no_read(const uint8_t *m, size_t n) { (void)m, (void)n; return reading; }
+static struct second_reading no_second_read(const uint8_t *m, size_t n) { (void)m, (void)n; return second; }
+static struct raydulcimer_written no_write(struct raydulcimer_record r, uint8_t *o, size_t n)
 {
     (void)r, (void)o, (void)n;
     return written;
 }
+static size_t no_second_write(const struct second_reading *r, uint8_t *o, size_t n)
+{
+    (void)r, (void)o, (void)n;
+    return written.length;
+}
 
-static reader *volatile read = raydulcimer_read;
-static writer *volatile write = raydulcimer_write;
+/* Through pointers, so that one caller serves both the measured calls and the empty ones. */
+static __typeof__(no_read) *volatile read = raydulcimer_read;
+static __typeof__(no_write) *volatile write = raydulcimer_write;
+static __typeof__(no_second_read) *volatile read_second = second_read;
+static __typeof__(no_second_write) *volatile write_second = second_write;
+
 static void call_read(void) { reading = read(message, length); }
 static void call_write(void) { written = write(reading.value, out, sizeof out); }
+static void call_second_read(void) { second = read_second(message, length); }
+static void call_second_write(void) { written.length = write_second(&second, out, sizeof out); }
 
 static ucontext_t here, there;
 static uint8_t stack[1 << 16];
@@ -95,19 +107,20 @@ static size_t used(void (*f)(void))
 
 int main(int argc, char **argv)
 {
-    int stacked = argc == 4 && !strcmp(argv[1], "stack");
-    if (argc != 3 + stacked || !choose(argv[2 + stacked])) {
-        fprintf(stderr, "usage: codec [stack] read|write request|response|configuration|sixteen\n");
+    int stacked = argc == 5 && !strcmp(argv[1], "stack");
+    if (argc != 4 + stacked || !choose(argv[3 + stacked])) {
+        fprintf(stderr, "usage: codec [stack] proved|second read|write request|response|configuration|sixteen\n");
         return 2;
     }
-    void (*call)(void) = call_read;
-    if (!strcmp(argv[1 + stacked], "write")) {
-        call_read();
-        call = call_write;
+    int proved = !strcmp(argv[1 + stacked], "proved");
+    void (*call)(void) = proved ? call_read : call_second_read;
+    if (!strcmp(argv[2 + stacked], "write")) {
+        call();
+        call = proved ? call_write : call_second_write;
     }
     if (stacked) {
         size_t full = used(call);
-        read = no_reader, write = no_writer;
+        read = no_read, write = no_write, read_second = no_second_read, write_second = no_second_write;
         printf("%zu\n", full - used(call));
     } else {
         call();

@@ -32,17 +32,17 @@ extern "C" {
 
 /* Refusals. */
 #define RAYDULCIMER_OK 0
-#define RAYDULCIMER_TOO_LONG 1         /* the message has more than 256 octets */
-#define RAYDULCIMER_ENDS_EARLY 2       /* it ends before a field or block that its layout needs */
-#define RAYDULCIMER_RESERVED_ID 3      /* its ID is reserved */
-#define RAYDULCIMER_WRONG_VERSION 4    /* version 0, or above 1 with an ID other than 0 and 1 */
-#define RAYDULCIMER_SETS_DIFFER 5      /* the two sets of a Configuration differ */
-#define RAYDULCIMER_BLOCK_TOO_SMALL 6  /* a block's size is below its need (below 2 for ID 4 to 15) */
-#define RAYDULCIMER_WRONG_BLOCK 7      /* a block's ID has no bit in the set (always so from 16), or came before */
-#define RAYDULCIMER_NOT_ALLOWED 8      /* a field is not allowed */
-#define RAYDULCIMER_LEFT_OVER 9        /* octets are left over in version 1 */
-#define RAYDULCIMER_BUFFER_TOO_SHORT 11 /* the lent buffer is shorter than what is to be written */
-#define RAYDULCIMER_NOT_VALID 12       /* a record to be written is not valid */
+#define RAYDULCIMER_TOO_LONG 1            /* the message has more than 256 octets */
+#define RAYDULCIMER_ENDS_EARLY 2          /* it ends before a field or block that its layout needs */
+#define RAYDULCIMER_RESERVED_ID 3         /* its ID is reserved */
+#define RAYDULCIMER_WRONG_VERSION 4       /* version 0, or above 1 with an ID other than 0 and 1 */
+#define RAYDULCIMER_SETS_DIFFER 5         /* the two sets of a Configuration differ */
+#define RAYDULCIMER_BLOCK_TOO_SMALL 6     /* a block's size is below its need (below 2 for ID 4 to 15) */
+#define RAYDULCIMER_WRONG_BLOCK 7         /* a block's ID has no bit in the set (always so from 16), or came before */
+#define RAYDULCIMER_NOT_ALLOWED 8         /* a field is not allowed */
+#define RAYDULCIMER_LEFT_OVER 9           /* octets are left over in version 1 */
+#define RAYDULCIMER_BUFFER_TOO_SHORT 11   /* the lent buffer is shorter than what is to be written */
+#define RAYDULCIMER_NOT_VALID 12          /* a record to be written, or a profile, is not valid */
 
 /* What a technology's block of message 1 says. Intervals and slots are in ms; addresses are octets in wire order. */
 struct raydulcimer_uwb_capability {

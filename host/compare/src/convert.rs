@@ -1,0 +1,89 @@
+//! Records of the one implementation as records of the other, field by field.
+use raydulcimer as proved;
+use second as plain;
+
+/// Both directions from one list of fields: those that need a kind of their own, and those that are alike.
+macro_rules! block {
+    ($to:ident, $of:ident, $name:ident, [$($kind:ident $field:ident),*], [$($alike:ident),*]) => {
+        fn $to(r: &plain::$name) -> proved::$name {
+            proved::$name { $($field: proved::$kind(r.$field),)* $($alike: r.$alike,)* }
+        }
+        fn $of(r: &proved::$name) -> plain::$name {
+            plain::$name { $($field: r.$field.0,)* $($alike: r.$alike,)* }
+        }
+    };
+}
+
+block!(to_uwb_capability, of_uwb_capability, UwbCapability,
+    [Channels channels, PreambleIndexes preamble_indexes, ConfigIds config_ids],
+    [address, shortest_interval, shortest_slot, roles]);
+block!(to_uwb_configuration, of_uwb_configuration, UwbConfiguration,
+    [Channel channel, PreambleIndex preamble_index, ConfigId config_id],
+    [address, session_id, interval, slot, key_length, key, country, role, mode]);
+block!(
+    to_cs_capability,
+    of_cs_capability,
+    CsCapability,
+    [],
+    [security_types, address]
+);
+block!(
+    to_cs_configuration,
+    of_cs_configuration,
+    CsConfiguration,
+    [],
+    [security_level, address]
+);
+block!(
+    to_nan_capability,
+    of_nan_capability,
+    NanCapability,
+    [],
+    [features, periodic, bandwidth, receive_chains]
+);
+block!(
+    to_nan_configuration,
+    of_nan_configuration,
+    NanConfiguration,
+    [],
+    [name_length, name, role, periodic]
+);
+block!(to_rssi, of_rssi, Rssi, [], [address]);
+
+pub fn to_library(r: &plain::Record) -> proved::Record {
+    proved::Record {
+        id: r.id,
+        set: r.set,
+        capability: proved::Capability {
+            uwb: to_uwb_capability(&r.capability.uwb),
+            cs: to_cs_capability(&r.capability.cs),
+            nan: to_nan_capability(&r.capability.nan),
+            rssi: to_rssi(&r.capability.rssi),
+        },
+        configuration: proved::Configuration {
+            uwb: to_uwb_configuration(&r.configuration.uwb),
+            cs: to_cs_configuration(&r.configuration.cs),
+            nan: to_nan_configuration(&r.configuration.nan),
+            rssi: to_rssi(&r.configuration.rssi),
+        },
+    }
+}
+
+pub fn of_library(r: &proved::Record) -> plain::Record {
+    plain::Record {
+        id: r.id,
+        set: r.set,
+        capability: plain::Capability {
+            uwb: of_uwb_capability(&r.capability.uwb),
+            cs: of_cs_capability(&r.capability.cs),
+            nan: of_nan_capability(&r.capability.nan),
+            rssi: of_rssi(&r.capability.rssi),
+        },
+        configuration: plain::Configuration {
+            uwb: of_uwb_configuration(&r.configuration.uwb),
+            cs: of_cs_configuration(&r.configuration.cs),
+            nan: of_nan_configuration(&r.configuration.nan),
+            rssi: of_rssi(&r.configuration.rssi),
+        },
+    }
+}

@@ -1,0 +1,19 @@
+//! Second, independent implementation of the ranging codec: reader and writer
+//! of the six messages of version 1, written from the customer's papers alone.
+#![no_std]
+#![forbid(unsafe_code)]
+
+#[cfg(test)]
+extern crate std;
+
+mod reader;
+mod record;
+mod refusal;
+mod valid;
+mod writer;
+
+pub use reader::read;
+pub use record::*;
+pub use refusal::Refusal;
+pub use valid::is_valid;
+pub use writer::write;
