@@ -3,7 +3,7 @@ use Prim.Native.Nat.{ℕ}
 use native.Mathlib.Omega.{arith}
 use mathlib.Core.Path.{_≡_, refl}
 use mathlib.Core.Bool.{Bool, true, false, _&&_, _||_}
-use Rattle.codec.specs.Refusal.{Refusal, tooLong, endsEarly, reservedId, wrongVersion, setsDiffer, blockTooSmall, wrongBlock, notAllowed, leftOver, bufferTooShort, notValid, numberOf, Checked, refuse, accept, demand, andThen, numberIn}
+use Rattle.codec.specs.Refusal.{Refusal, tooLong, endsEarly, reservedId, wrongVersion, setsDiffer, blockTooSmall, wrongBlock, notAllowed, leftOver, notForTag, bufferTooShort, notValid, numberOf, Checked, refuse, accept, demand, andThen, numberIn}
 
 pub by-bool : {C : Type 0} (t : Bool) → (t ≡ true → C) → (t ≡ false → C) → C
 by-bool true f g = f refl
@@ -31,11 +31,12 @@ no-zero blockTooSmall e = omega arith
 no-zero wrongBlock e = omega arith
 no-zero notAllowed e = omega arith
 no-zero leftOver e = omega arith
+no-zero notForTag e = omega arith
 no-zero bufferTooShort e = omega arith
 no-zero notValid e = omega arith
 
 module _ {A C : Type 0} where
-  -- number 0 is given exactly where noId is refused
+  -- number 0 is given exactly where nothing is refused
   pub by-number : (c : Checked A) → numberIn c ≡ 0 → ((a : A) → c ≡ accept a → C) → C
   by-number (refuse x) e k = absurd (no-zero x e)
   by-number (accept a) e k = k a refl

@@ -11,13 +11,15 @@ use Rattle.codec.specs.Octets.{toLE, allZero}
 use Rattle.codec.specs.Layout.{Layout, number, octets, counted, test, spelled, Values, allowed, cleared, zeroed}
 use Rattle.codec.specs.Blocks.{csCapability, uwbConfiguration, csConfiguration, nanConfiguration}
 use Rattle.codec.specs.Technology.{bit}
-use Rattle.codec.specs.Records.{Column, capabilities, configurations, ofConfiguration}
+use Rattle.codec.specs.Records.{Column, capabilities, configurations, ofConfiguration, response, messageId, setRecord}
 use Rattle.codec.specs.Message.{assigned}
 use Rattle.codec.specs.Valid.{validFields, setIn, validColumn, valid}
 use Rattle.codec.specs.NormalForm.{block, rising, columnBlocks, normal}
 use Rattle.codec.specs.Writing.{writing, Writes}
-use Rattle.codec.specs.Puts.{over, Put, blockIf, columnOctets, Sized, Long, LongCapability, LongConfiguration, LongRecord, Fit}
+use Rattle.codec.specs.Puts.{over, Put, blockIf, head, columnOctets, Sized, Long, LongCapability, LongConfiguration, LongRecord, Fit}
+use Rattle.codec.specs.declared.records.Capability.{Capability}
 use Rattle.codec.specs.declared.records.Record.{Record}
+use Rattle.codec.specs.declared.records.SetMessage.{SetMessage}
 use Rattle.codec.proofs.Outcomes.{and-true}
 use Rattle.codec.proofs.Layouts.{fits, within, within-le}
 use Rattle.codec.proofs.Puts.{put-then}
@@ -132,6 +134,19 @@ module _ (r : Record) where
 
   pub long-other : (r .id ≡ 1 → ⊥) → (r .id ≡ 2 → ⊥) → LongRecord r
   long-other h k = record { capability = λ e. absurd (h e); configuration = λ e. absurd (k e) }
+
+pub put-response : (set : ℕ) (c : Capability) {d e : List ℕ} {next : ℕ} → Put d 0 (head 1 set ++ columnOctets capabilities set c) e next → Put d 0 (normal (response set c)) e next
+put-response set c p = rw (normal-capability (response set c) refl) p
+
+pub normal-set : (message : SetMessage) (set : ℕ) → normal (setRecord message set) ≡ head (messageId message) set
+unfolding normal flatten
+normal-set SetMessage.Request set = refl
+normal-set SetMessage.ConfigurationResponse set = refl
+normal-set SetMessage.Stop set = refl
+normal-set SetMessage.StopResponse set = refl
+
+pub put-set : (message : SetMessage) (set : ℕ) {d e : List ℕ} {next : ℕ} → Put d 0 (head (messageId message) set) e next → Put d 0 (normal (setRecord message set)) e next
+put-set message set p = rw (normal-set message set) p
 
 -- ---- the counted octets of a valid record fit their arrays
 

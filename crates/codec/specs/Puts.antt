@@ -49,6 +49,10 @@ beforeKey v = toLE 4 (v .«session_id») ++ (v .«config_id» .0 ∷ (v .channel
 abbrev pub afterKey : UwbConfiguration → Values uwbAfterKey
 afterKey v = (v .country, (v .role, (v .mode, tt)))
 
+-- the version, the message ID and the set
+abbrev pub head : ℕ → ℕ → List ℕ
+head id set = 1 ∷ (id ∷ toLE 2 set)
+
 -- the octets of a column's blocks
 abbrev pub columnOctets : {A : Type 0} → Column A → ℕ → A → List ℕ
 columnOctets C set a =

@@ -13,6 +13,7 @@ use Rattle.codec.specs.declared.rssi.Rssi.{Rssi}
 use Rattle.codec.specs.declared.records.Capability.{Capability}
 use Rattle.codec.specs.declared.records.Configuration.{Configuration}
 use Rattle.codec.specs.declared.records.Record.{Record}
+use Rattle.codec.specs.declared.records.SetMessage.{SetMessage}
 use Rattle.codec.specs.declared.records.Reading.{Reading}
 
 -- ---- a block's fields as the struct of the code that holds them
@@ -123,6 +124,22 @@ blank C = C .make (λ id. zeroes (C .layouts id))
 
 abbrev pub zeroRecord : Record
 zeroRecord = record { id = 0; set = 0; capability = blank capabilities; configuration = blank configurations }
+
+-- ---- records of one message
+
+-- a Capability Response with these blocks
+abbrev pub response : ℕ → Capability → Record
+response set c = record { id = 1; set = set; capability = c; configuration = blank configurations }
+
+-- a message that carries a set and nothing else
+abbrev pub messageId : SetMessage → ℕ
+messageId SetMessage.Request = 0
+messageId SetMessage.ConfigurationResponse = 3
+messageId SetMessage.Stop = 6
+messageId SetMessage.StopResponse = 7
+
+abbrev pub setRecord : SetMessage → ℕ → Record
+setRecord message set = record { id = messageId message; set = set; capability = blank capabilities; configuration = blank configurations }
 
 -- ---- what the reader returns: a refusal's number and the all-zero record, or 0 and the record
 

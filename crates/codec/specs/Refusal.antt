@@ -21,9 +21,11 @@ pub data Refusal : Type 0 where
   notAllowed : Refusal
   -- octets are left over in version 1
   leftOver : Refusal
+  -- a session is given message 1, 3 or 7
+  notForTag : Refusal
   -- the lent buffer is shorter than what is to be written
   bufferTooShort : Refusal
-  -- a record to be written is not valid
+  -- a record to be written, or a profile, is not valid
   notValid : Refusal
 
 abbrev pub numberOf : Refusal → ℕ
@@ -36,6 +38,7 @@ numberOf blockTooSmall = 6
 numberOf wrongBlock = 7
 numberOf notAllowed = 8
 numberOf leftOver = 9
+numberOf notForTag = 10
 numberOf bufferTooShort = 11
 numberOf notValid = 12
 

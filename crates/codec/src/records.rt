@@ -13,7 +13,7 @@ use crate::uwb::PreambleIndexes;
 use crate::uwb::UwbCapability;
 use crate::uwb::UwbConfiguration;
 ghost use mathlib.Core.Path.{_≡_};
-ghost use Rattle.codec.specs.Records.{capabilities, configurations, blank, refused};
+ghost use Rattle.codec.specs.Records.{capabilities, configurations, blank, messageId, refused};
 
 // What the blocks of message 1 say. An absent technology's fields are zero.
 #[repr(C)]
@@ -42,6 +42,14 @@ pub struct Record {
     pub configuration: Configuration,
 }
 
+// A message that carries a set and nothing else.
+pub enum SetMessage {
+    Request,
+    ConfigurationResponse,
+    Stop,
+    StopResponse,
+}
+
 // A refusal's number and an all-zero record, or 0 and the record.
 #[repr(C)]
 pub struct Reading {
@@ -54,6 +62,17 @@ pub struct Reading {
 pub struct Written {
     pub refusal: u8,
     pub length: usize,
+}
+
+pub(crate) fn message_id(message: SetMessage) -> u8
+    ensures { λ r. ⌜ r ≡ messageId message ⌝ }
+{
+    match message {
+        SetMessage::Request => 0,
+        SetMessage::ConfigurationResponse => 3,
+        SetMessage::Stop => 6,
+        SetMessage::StopResponse => 7,
+    }
 }
 
 pub(crate) fn zero_capability() -> Capability

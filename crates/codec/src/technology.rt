@@ -7,7 +7,7 @@ ghost use Rattle.codec.specs.Technology.{bit};
 ghost use Rattle.codec.specs.Message.{also};
 
 // Whether a set has the bit of an ID.
-pub(crate) fn has(set: u16, id: u8) -> bool
+pub fn has(set: u16, id: u8) -> bool
     ensures { λ r. ⌜ r ≡ bit set id ⌝ }
 {
     if id < 16 {

@@ -6,20 +6,23 @@ use crate::octets::put_u16;
 use crate::records::Capability;
 use crate::records::Configuration;
 use crate::records::Record;
+use crate::records::SetMessage;
 use crate::records::Written;
+use crate::records::message_id;
 use crate::refusal::BUFFER_TOO_SHORT;
 use crate::refusal::NOT_VALID;
 use crate::rssi;
 use crate::technology::has;
 use crate::uwb;
-use crate::valid::valid;
+use crate::validity::valid;
+use crate::validity::valid_response;
 ghost use mathlib.Core.Path.{_≡_};
 ghost use Prim.Native.Nat.{_+_, _≤_};
 ghost use lib.ListN.{length};
-ghost use Rattle.codec.specs.Records.{capabilities, configurations};
+ghost use Rattle.codec.specs.Records.{capabilities, configurations, response, setRecord};
 ghost use Rattle.codec.specs.NormalForm.{normal};
 ghost use Rattle.codec.specs.Writing.{Writes};
-ghost use Rattle.codec.specs.Puts.{Put, columnOctets, LongCapability, LongConfiguration, LongRecord, Fit};
+ghost use Rattle.codec.specs.Puts.{Put, head, columnOctets, LongCapability, LongConfiguration, LongRecord, Fit};
 
 // How many octets the blocks of a set take in message 1.
 fn size_capability(set: u16, c: Capability) -> usize
@@ -84,14 +87,22 @@ fn put_configuration(set: u16, c: Configuration, out: &mut [u8], at: usize) -> u
     rssi::put_block(has(set, 3), c.rssi, out, rssi)
 }
 
+// Writes the version, the message ID and the set.
+fn put_head(id: u8, set: u16, out: &mut [u8]) -> usize
+    requires { ⌜ 4 ≤ length (now out) ⌝ }
+    ensures { λ r. ⌜ Put (now (out .entry)) 0 (head id set) (now (out .exit)) r ⌝ }
+{
+    let next = put(out, 0, 1);
+    let first = put(out, next, id);
+    put_u16(out, first, set)
+}
+
 // Writes a record's normal form.
 fn put_message(value: Record, out: &mut [u8]) -> usize
     requires { ⌜ (length (normal value) ≤ length (now out)) × LongRecord value × Fit (value .configuration) ⌝ }
     ensures { λ r. ⌜ Put (now (out .entry)) 0 (normal value) (now (out .exit)) r ⌝ }
 {
-    let id = put(out, 0, 1);
-    let set = put(out, id, value.id);
-    let next = put_u16(out, set, value.set);
+    let next = put_head(value.id, value.set, out);
     if value.id == 1 {
         return put_capability(value.set, value.capability, out, next);
     }
@@ -102,23 +113,59 @@ fn put_message(value: Record, out: &mut [u8]) -> usize
     next
 }
 
+fn refused(number: u8) -> Written
+    ensures { λ r. ⌜ r ≡ record { refusal = number; length = 0 } ⌝ }
+{
+    Written {
+        refusal: number,
+        length: 0,
+    }
+}
+
 // Writes a record: a record that is not valid and then a buffer that is too short are refused, and the buffer stays.
 pub fn write(value: Record, out: &mut [u8]) -> Written
     ensures { λ r. ⌜ Writes value (now (out .entry)) r (now (out .exit)) ⌝ }
 {
     if !valid(value) {
-        return Written {
-            refusal: NOT_VALID,
-            length: 0,
-        };
+        return refused(NOT_VALID);
     }
     let length = size_message(value);
     if out.len() < length {
-        return Written {
-            refusal: BUFFER_TOO_SHORT,
-            length: 0,
-        };
+        return refused(BUFFER_TOO_SHORT);
     }
     put_message(value, out);
     Written { refusal: 0, length }
+}
+
+// Writes a Capability Response with these blocks, as `write` does.
+pub fn write_response(set: u16, c: Capability, out: &mut [u8]) -> Written
+    ensures { λ r. ⌜ Writes (response set c) (now (out .entry)) r (now (out .exit)) ⌝ }
+{
+    if !valid_response(set, c) {
+        return refused(NOT_VALID);
+    }
+    let length = 4 + size_capability(set, c);
+    if out.len() < length {
+        return refused(BUFFER_TOO_SHORT);
+    }
+    let blocks = put_head(1, set, out);
+    put_capability(set, c, out, blocks);
+    Written { refusal: 0, length }
+}
+
+// Writes a message that carries a set and nothing else, as `write` does.
+pub fn write_set(message: SetMessage, set: u16, out: &mut [u8]) -> Written
+    ensures { λ r. ⌜ Writes (setRecord message set) (now (out .entry)) r (now (out .exit)) ⌝ }
+{
+    if set >= 16 {
+        return refused(NOT_VALID);
+    }
+    if out.len() < 4 {
+        return refused(BUFFER_TOO_SHORT);
+    }
+    put_head(message_id(message), set, out);
+    Written {
+        refusal: 0,
+        length: 4,
+    }
 }

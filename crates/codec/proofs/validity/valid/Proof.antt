@@ -4,8 +4,8 @@ use lib.Dec.{ltb}
 use mathlib.Core.Bool.{Bool, _&&_}
 use mathlib.Core.Path.{ap}
 use borrow.Author.Needs.{needs}
-use Rattle.codec.proofs.valid.valid.Statement.{statement}
-use Rattle.codec.proofs.valid.valid.Tie as tie
+use Rattle.codec.proofs.validity.valid.Statement.{statement}
+use Rattle.codec.proofs.validity.valid.Tie as tie
 
 assigned-requires : tie.Need-assigned-requires
 assigned-requires c κs = search needs

@@ -1,7 +1,7 @@
 use Rattle.codec.specs.Valid.{validColumn}
 use borrow.Author.Needs.{needs}
-use Rattle.codec.proofs.valid.valid_configuration.Statement.{statement}
-use Rattle.codec.proofs.valid.valid_configuration.Tie as tie
+use Rattle.codec.proofs.validity.valid_configuration.Statement.{statement}
+use Rattle.codec.proofs.validity.valid_configuration.Tie as tie
 
 has-requires : tie.Need-has-requires
 has-requires c κs = search needs

@@ -1,8 +1,8 @@
 use Rattle.codec.proofs.MessageCases.{low-assigned, six-or-seven, not-assigned}
 use mathlib.Core.Path.{sym}
 use native.Mathlib.Omega.{arith}
-use Rattle.codec.proofs.valid.assigned.Statement.{statement}
-use Rattle.codec.proofs.valid.assigned.Tie as tie
+use Rattle.codec.proofs.validity.assigned.Statement.{statement}
+use Rattle.codec.proofs.validity.assigned.Tie as tie
 
 returns : tie.Need-returns
 returns c = sym (not-assigned _ (λ e. omega arith) (λ e. omega arith) (λ e. omega arith) (λ e. omega arith) (λ e. omega arith) (λ e. omega arith))

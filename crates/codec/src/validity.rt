@@ -10,7 +10,7 @@ use crate::technology::set_in;
 use crate::uwb;
 ghost use mathlib.Core.Path.{_≡_};
 ghost use Rattle.codec.specs.Message.{assigned};
-ghost use Rattle.codec.specs.Records.{capabilities, configurations};
+ghost use Rattle.codec.specs.Records.{capabilities, configurations, response};
 ghost use Rattle.codec.specs.Valid.{validColumn, valid};
 
 fn assigned(id: u8) -> bool
@@ -43,7 +43,15 @@ fn valid_configuration(set: u16, c: Configuration) -> bool
     uwb & (cs & (nan & rssi))
 }
 
-pub(crate) fn valid(value: Record) -> bool
+// Whether a Capability Response with these blocks is valid.
+pub fn valid_response(set: u16, c: Capability) -> bool
+    ensures { λ r. ⌜ r ≡ valid (response set c) ⌝ }
+{
+    (set < 16) & valid_capability(set, c)
+}
+
+// Whether a record is valid.
+pub fn valid(value: Record) -> bool
     ensures { λ r. ⌜ r ≡ valid value ⌝ }
 {
     if !(assigned(value.id) & (value.set < 16)) {
