@@ -25,6 +25,8 @@ pub use records::Reading;
 pub use records::Record;
 pub use records::SetMessage;
 pub use records::Written;
+pub use records::zero_capability;
+pub use records::zero_configuration;
 pub use rssi::Rssi;
 pub use technology::has;
 pub use uwb::Channel;

@@ -75,7 +75,7 @@ pub(crate) fn message_id(message: SetMessage) -> u8
     }
 }
 
-pub(crate) fn zero_capability() -> Capability
+pub fn zero_capability() -> Capability
     ensures { λ r. ⌜ r ≡ blank capabilities ⌝ }
 {
     Capability {
@@ -102,7 +102,7 @@ pub(crate) fn zero_capability() -> Capability
     }
 }
 
-pub(crate) fn zero_configuration() -> Configuration
+pub fn zero_configuration() -> Configuration
     ensures { λ r. ⌜ r ≡ blank configurations ⌝ }
 {
     Configuration {

@@ -1,0 +1,149 @@
+-- A session read as a ledger: each call does to the one what it does to the other.
+use Prim.Native.Nat.{ℕ}
+use mathlib.Core.Path.{_≡_, refl, sym, ap, _∙_, fun-ext}
+use mathlib.Core.List.{List}
+use mathlib.Core.Option.{Option, none, some}
+use mathlib.Core.Bool.{Bool, true, false, cond, not, _&&_, _||_, and-true, and-false, or-true, or-false}
+use lib.Dec.{leb}
+use lib.ListN.{length}
+use Rattle.codec.specs.Refusal.{Checked, refuse, accept, demand, andThen, bufferTooShort}
+use Rattle.codec.specs.Message.{reading}
+use Rattle.codec.specs.declared.uwb.UwbConfiguration.{UwbConfiguration}
+use Rattle.codec.specs.declared.nan.NanConfiguration.{NanConfiguration}
+use Rattle.codec.specs.declared.rssi.Rssi.{Rssi}
+use Rattle.codec.specs.declared.records.Configuration.{Configuration}
+use Rattle.codec.specs.declared.records.Record.{Record}
+use Rattle.session.specs.declared.state.Profile.{Profile}
+use Rattle.session.specs.declared.state.UwbState.{UwbState}
+use Rattle.session.specs.declared.state.NanState.{NanState}
+use Rattle.session.specs.declared.state.RssiState.{RssiState}
+use Rattle.session.specs.declared.state.Session.{Session}
+use Rattle.session.specs.Technology.{Technology, uwb, cs, nan, rssi, names}
+use Rattle.session.specs.Rules.{Call, message, advertisement, Kind, request, configuration, stop, other, kindOf, octetsOf, sets, Served, conclude, Keeps, giveOut, setBy, configure, endedBy, halt, serve, call}
+use Rattle.session.specs.Ledger.{Ledger, isSome, ledgerKeeps}
+use Rattle.session.specs.Session.{yes, inForceIn, rangingIn, markIn, noUwb, noNan, noRssi, sessionKeeps}
+
+-- ---- a state read as another: what is asked of both agrees, and each change goes through
+
+pub record Follows {S T : Type 0} (K : Keeps S) (M : Keeps T) (f : S → T) : Type 0 where
+  pub ranging : (s : S) (t : Technology) → K .ranging s t ≡ M .ranging (f s) t
+  pub barred : (s : S) (t : Technology) → K .barred s t ≡ M .barred (f s) t
+  pub give : (has : Technology → Bool) (s : S) → f (K .give has s) ≡ M .give has (f s)
+  pub put : (isSet : Technology → Bool) (c : Configuration) (s : S) → f (K .put isSet c s) ≡ M .put isSet c (f s)
+  pub stop : (ended : Technology → Bool) (s : S) → f (K .stop ended s) ≡ M .stop ended (f s)
+
+module _ {S T : Type 0} (f : S → T) where
+  abbrev pub through : Checked (Served S) → Checked (Served T)
+  through (refuse x) = refuse x
+  through (accept v) = accept (record { state = f (v .state); reply = v .reply; set = v .set; stopped = v .stopped })
+
+  through-conclude : (b : List ℕ) (v : Served S) → through (conclude b v) ≡ conclude b (record { state = f (v .state); reply = v .reply; set = v .set; stopped = v .stopped })
+  unfolding conclude
+  through-conclude b v = go (leb (length (octetsOf (v .reply))) (length b))
+    where
+      go : (t : Bool) → through (demand t bufferTooShort (accept v)) ≡ demand t bufferTooShort (accept (record { state = f (v .state); reply = v .reply; set = v .set; stopped = v .stopped }))
+      go true = refl
+      go false = refl
+
+  module _ (K : Keeps S) (M : Keeps T) (F : Follows K M f) (p : Profile) (s : S) (b : List ℕ) where
+    give-through : (wanted : Technology → Bool) → through (giveOut K p wanted s b) ≡ giveOut M p wanted (f s) b
+    unfolding giveOut
+    give-through wanted = through-conclude b _ ∙ rw (F .give)
+
+    set-same : (set : ℕ) (c : Configuration) → setBy K p set c s ≡ setBy M p set c (f s)
+    unfolding setBy
+    set-same set c = fun-ext (λ t. ap (λ (x : Bool). sets p set c t x) (F .barred s t))
+
+    ended-same : (set : ℕ) → endedBy K p set s ≡ endedBy M p set (f s)
+    unfolding endedBy
+    ended-same set = fun-ext (λ t. ap (λ (x : Bool). names set t && x) (F .ranging s t))
+
+    serve-through : (k : Kind) (r : Record) → through (serve K p k r s b) ≡ serve M p k r (f s) b
+    unfolding serve configure halt
+    serve-through request r = give-through (names (r .set))
+    serve-through configuration r = through-conclude b _ ∙ rw (F .put, set-same (r .set) (r .configuration))
+    serve-through stop r = through-conclude b _ ∙ rw (F .stop, ended-same (r .set))
+    serve-through other r = refl
+
+  pub call-through : (K : Keeps S) (M : Keeps T) → Follows K M f → (p : Profile) (s : S) (c : Call) → through (call K p s c) ≡ call M p (f s) c
+  unfolding call
+  call-through K M F p s (message m b) = go (reading m)
+    where
+      go : (o : Checked Record) → through (andThen o λ r. serve K p (kindOf (r .id)) r s b) ≡ (andThen o λ r. serve M p (kindOf (r .id)) r (f s) b)
+      go (refuse x) = refl
+      go (accept r) = serve-through K M F p s b (kindOf (r .id)) r
+  call-through K M F p s (advertisement b) = give-through K M F p s b (λ t. true)
+
+-- ---- the session as a ledger
+
+unfoldable pub ledgerOf : Session → Ledger
+ledgerOf s t = record { inForce = inForceIn s t; mark = markIn s t }
+
+is-some : {A : Type 0} (v : Bool) (a : A) → v ≡ isSome (cond v (some a) none)
+is-some true a = refl
+is-some false a = refl
+
+ranging-same : (s : Session) (t : Technology) → rangingIn s t ≡ isSome (inForceIn s t)
+unfolding rangingIn inForceIn
+ranging-same s uwb = is-some (yes (s .uwb .ranging)) (s .uwb .settings)
+ranging-same s cs = refl
+ranging-same s nan = is-some (yes (s .nan .ranging)) (s .nan .settings)
+ranging-same s rssi = is-some (yes (s .rssi .ranging)) (s .rssi .settings)
+
+cond-map : {A B : Type 0} (f : A → B) (v : Bool) (x y : A) → f (cond v x y) ≡ cond v (f x) (f y)
+cond-map f true x y = refl
+cond-map f false x y = refl
+
+given-mark : (h : Bool) (m : ℕ) → yes (cond h 0 m) ≡ yes m && not h
+given-mark true m = sym (and-false (yes m))
+given-mark false m = sym (and-true (yes m))
+
+ended-mark : (h : Bool) (m : ℕ) → yes (cond h 1 m) ≡ yes m || h
+ended-mark true m = sym (or-true (yes m))
+ended-mark false m = sym (or-false (yes m))
+
+none-either : {A : Type 0} (v : Bool) → _≡_ {A = Option A} none (cond v none none)
+none-either true = refl
+none-either false = refl
+
+-- the settings in force of each technology's part of the session
+abbrev uwbForce : UwbState → Option UwbConfiguration
+uwbForce u = cond (yes (u .ranging)) (some (u .settings)) none
+
+abbrev nanForce : NanState → Option NanConfiguration
+nanForce u = cond (yes (u .ranging)) (some (u .settings)) none
+
+abbrev rssiForce : RssiState → Option Rssi
+rssiForce u = cond (yes (u .ranging)) (some (u .settings)) none
+
+module _ (s : Session) where
+  given-cell : (has : Technology → Bool) (t : Technology) → ledgerOf (sessionKeeps .give has s) t ≡ ledgerKeeps .give has (ledgerOf s) t
+  unfolding ledgerOf inForceIn markIn
+  given-cell has uwb = λ i. record { inForce = inForceIn s uwb; mark = given-mark (has uwb) (s .mark) i }
+  given-cell has cs = refl
+  given-cell has nan = refl
+  given-cell has rssi = refl
+
+  put-cell : (isSet : Technology → Bool) (c : Configuration) (t : Technology) → ledgerOf (sessionKeeps .put isSet c s) t ≡ ledgerKeeps .put isSet c (ledgerOf s) t
+  unfolding ledgerOf inForceIn markIn
+  put-cell isSet c uwb = λ i. record { inForce = cond-map uwbForce (isSet uwb) (record { ranging = 1; settings = c .uwb }) (s .uwb) i; mark = yes (s .mark) }
+  put-cell isSet c cs = refl
+  put-cell isSet c nan = λ i. record { inForce = cond-map nanForce (isSet nan) (record { ranging = 1; settings = c .nan }) (s .nan) i; mark = false }
+  put-cell isSet c rssi = λ i. record { inForce = cond-map rssiForce (isSet rssi) (record { ranging = 1; settings = c .rssi }) (s .rssi) i; mark = false }
+
+  stop-cell : (ended : Technology → Bool) (t : Technology) → ledgerOf (sessionKeeps .stop ended s) t ≡ ledgerKeeps .stop ended (ledgerOf s) t
+  unfolding ledgerOf inForceIn markIn
+  stop-cell ended uwb = λ i. record { inForce = cond-map uwbForce (ended uwb) noUwb (s .uwb) i; mark = ended-mark (ended uwb) (s .mark) i }
+  stop-cell ended cs = λ i. record { inForce = none-either (ended cs) i; mark = false }
+  stop-cell ended nan = λ i. record { inForce = cond-map nanForce (ended nan) noNan (s .nan) i; mark = false }
+  stop-cell ended rssi = λ i. record { inForce = cond-map rssiForce (ended rssi) noRssi (s .rssi) i; mark = false }
+
+pub session-follows : Follows sessionKeeps ledgerKeeps ledgerOf
+unfolding ledgerOf
+session-follows = record {
+  ranging = ranging-same;
+  barred = λ s t. refl;
+  give = λ has s. fun-ext (given-cell s has);
+  put = λ isSet c s. fun-ext (put-cell s isSet c);
+  stop = λ ended s. fun-ext (stop-cell s ended);
+}

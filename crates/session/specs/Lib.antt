@@ -1,0 +1,6 @@
+pub mod Technology
+pub mod Rules
+pub mod Ledger
+pub mod Session
+pub mod Trace
+pub mod Replies

@@ -1,0 +1,166 @@
+-- The rules that the ledger and the session share. None of them sees a session record or a ledger.
+use Prim.Native.Nat.{ℕ}
+use mathlib.Core.List.{List, [], _++_}
+use mathlib.Core.Option.{Option, none, some}
+use mathlib.Core.Bool.{Bool, true, false, cond, not, _&&_}
+use lib.Dec.{leb, ltb, eqb}
+use lib.ListN.{length, drop}
+use Rattle.codec.specs.Refusal.{Checked, refuse, accept, demand, andThen, numberOf, notForTag, bufferTooShort}
+use Rattle.codec.specs.Records.{capabilities, blank, response, setRecord}
+use Rattle.codec.specs.Message.{reading}
+use Rattle.codec.specs.Valid.{valid}
+use Rattle.codec.specs.NormalForm.{normal}
+use Rattle.codec.specs.declared.records.Capability.{Capability}
+use Rattle.codec.specs.declared.records.Configuration.{Configuration}
+use Rattle.codec.specs.declared.records.Record.{Record}
+use Rattle.codec.specs.declared.records.SetMessage.{SetMessage}
+use Rattle.session.specs.declared.state.Profile.{Profile}
+use Rattle.session.specs.declared.state.Answer.{Answer}
+use Rattle.session.specs.Technology.{Technology, uwb, cs, nan, rssi, capabilityIn, settingsIn, names, setOf, within}
+
+-- ---- the profile
+
+-- a valid capability record, with a choice of explicit replies: 0 not said, 1 on, 2 off
+unfoldable pub validProfile : Profile → Bool
+validProfile p = valid (response (p .set) (p .capability)) && ltb (p .replies) 3
+
+-- not said means on
+abbrev pub explicit : ℕ → Bool
+explicit replies = not (eqb replies 2)
+
+-- ---- calls
+
+-- a message's octets or an advertisement, each with the contents of the lent buffer
+pub data Call : Type 0 where
+  message : List ℕ → List ℕ → Call
+  advertisement : List ℕ → Call
+
+abbrev pub lent : Call → List ℕ
+lent (message m b) = b
+lent (advertisement b) = b
+
+-- what a message is to the tag
+pub data Kind : Type 0 where
+  request configuration stop other : Kind
+
+abbrev pub kindOf : ℕ → Kind
+kindOf id = cond (eqb id 0) request (cond (eqb id 2) configuration (cond (eqb id 6) stop other))
+
+-- ---- replies
+
+-- the octets of a reply, if there is one
+abbrev pub octetsOf : Option Record → List ℕ
+octetsOf none = []
+octetsOf (some r) = normal r
+
+-- the buffer afterwards: only the reply's own octets change
+unfoldable pub replied : Option Record → List ℕ → List ℕ
+replied r b = octetsOf r ++ drop (length (octetsOf r)) b
+
+-- the technologies of a Capability Response: those wanted that the profile has
+unfoldable pub shows : Profile → (Technology → Bool) → Technology → Bool
+shows p wanted t = wanted t && names (p .set) t
+
+-- message 1 with the profile's own blocks
+abbrev pub shown : Capability → (Technology → Bool) → Capability
+shown k has = record {
+  uwb = cond (has uwb) (k .uwb) (blank capabilities .uwb);
+  cs = cond (has cs) (k .cs) (blank capabilities .cs);
+  nan = cond (has nan) (k .nan) (blank capabilities .nan);
+  rssi = cond (has rssi) (k .rssi) (blank capabilities .rssi);
+}
+
+abbrev pub capabilityReply : Profile → (Technology → Bool) → Record
+capabilityReply p wanted = response (setOf (shows p wanted)) (shown (p .capability) (shows p wanted))
+
+-- messages 3 and 7 are written with explicit replies on only
+abbrev pub explicitReply : ℕ → SetMessage → ℕ → Option Record
+explicitReply replies m set = cond (explicit replies) (some (setRecord m set)) none
+
+-- ---- what a Configuration sets: a technology that it names and the profile has, with settings within the profile, and not barred
+unfoldable pub sets : Profile → ℕ → Configuration → Technology → Bool → Bool
+sets p set c t barred = names set t && (names (p .set) t && (within t (capabilityIn (p .capability) t) (settingsIn c t) && not barred))
+
+-- ---- what an accepted call gives: the state after it, the reply, what was set and what was stopped
+
+pub record Served (S : Type 0) : Type 0 where
+  pub state : S
+  pub reply : Option Record
+  pub set : ℕ
+  pub stopped : ℕ
+
+-- 11 is tested on the reply that the call would get
+unfoldable pub conclude : {S : Type 0} → List ℕ → Served S → Checked (Served S)
+conclude b v = demand (leb (length (octetsOf (v .reply))) (length b)) bufferTooShort (accept v)
+
+-- a refused call leaves the state
+abbrev pub after : {S : Type 0} → S → Checked (Served S) → S
+after s (refuse x) = s
+after s (accept v) = v .state
+
+-- ---- the calls, over whatever keeps the state
+
+-- what is asked of a state, and what happens to it: the technologies whose capabilities are given out, which are set, which stop
+pub record Keeps (S : Type 0) : Type 0 where
+  pub ranging : S → Technology → Bool
+  pub barred : S → Technology → Bool
+  pub give : (Technology → Bool) → S → S
+  pub put : (Technology → Bool) → Configuration → S → S
+  pub stop : (Technology → Bool) → S → S
+
+module _ {S : Type 0} (K : Keeps S) (p : Profile) where
+  unfoldable pub giveOut : (Technology → Bool) → S → List ℕ → Checked (Served S)
+  giveOut wanted s b = conclude b (record {
+    state = K .give (shows p wanted) s;
+    reply = some (capabilityReply p wanted);
+    set = 0;
+    stopped = 0;
+  })
+
+  -- what a Configuration sets
+  unfoldable pub setBy : ℕ → Configuration → S → Technology → Bool
+  setBy set c s t = sets p set c t (K .barred s t)
+
+  -- a technology already ranging takes the new settings if set, else goes on with the old
+  unfoldable pub configure : ℕ → Configuration → S → List ℕ → Checked (Served S)
+  configure set c s b = conclude b (record {
+    state = K .put (setBy set c s) c s;
+    reply = explicitReply (p .replies) SetMessage.ConfigurationResponse (setOf (setBy set c s));
+    set = setOf (setBy set c s);
+    stopped = 0;
+  })
+
+  -- the technologies named that are ranging stop
+  unfoldable pub endedBy : ℕ → S → Technology → Bool
+  endedBy set s t = names set t && K .ranging s t
+
+  unfoldable pub halt : ℕ → S → List ℕ → Checked (Served S)
+  halt set s b = conclude b (record {
+    state = K .stop (endedBy set s) s;
+    reply = explicitReply (p .replies) SetMessage.StopResponse (setOf (endedBy set s));
+    set = 0;
+    stopped = setOf (endedBy set s);
+  })
+
+  unfoldable pub serve : Kind → Record → S → List ℕ → Checked (Served S)
+  serve request r s b = giveOut (names (r .set)) s b
+  serve configuration r s b = configure (r .set) (r .configuration) s b
+  serve stop r s b = halt (r .set) s b
+  serve other r s b = refuse notForTag
+
+  -- the reader's refusals come first; an advertisement is a Request for the whole profile
+  unfoldable pub call : S → Call → Checked (Served S)
+  call s (message m b) = andThen (reading m) λ r. serve (kindOf (r .id)) r s b
+  call s (advertisement b) = giveOut (λ t. true) s b
+
+-- ---- what a caller sees
+
+-- a refusing session returns the number, reply length 0 and two empty sets
+abbrev pub answerTo : {S : Type 0} → Checked (Served S) → Answer
+answerTo (refuse x) = record { refusal = numberOf x; length = 0; set = 0; stopped = 0 }
+answerTo (accept v) = record { refusal = 0; length = length (octetsOf (v .reply)); set = v .set; stopped = v .stopped }
+
+-- and leaves the buffer
+abbrev pub bufferAfter : {S : Type 0} → Checked (Served S) → List ℕ → List ℕ
+bufferAfter (refuse x) b = b
+bufferAfter (accept v) b = replied (v .reply) b

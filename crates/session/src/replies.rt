@@ -1,0 +1,47 @@
+// Answers: refusals, and the replies that carry a set.
+use crate::state::Answer;
+use crate::state::Profile;
+use crate::state::Session;
+use crate::state::Step;
+use codec::SetMessage;
+use codec::Written;
+ghost use mathlib.Core.Path.{_≡_};
+ghost use Prim.Native.Nat.{_<_};
+ghost use Rattle.session.specs.Rules.{validProfile, explicitReply};
+ghost use Rattle.session.specs.Replies.{Delivers};
+
+pub(crate) fn valid_profile(p: Profile) -> bool
+    ensures { λ r. ⌜ r ≡ validProfile p ⌝ }
+{
+    let capability = p.capability;
+    codec::valid_response(p.set, capability) & (p.replies < 3)
+}
+
+// A refusal leaves the session.
+pub(crate) fn refused(s: Session, number: u8) -> Step
+    ensures { λ r. ⌜ r ≡ record { session = s; answer = record { refusal = number; length = 0; set = 0; stopped = 0 } } ⌝ }
+{
+    Step {
+        session: s,
+        answer: Answer {
+            refusal: number,
+            length: 0,
+            set: 0,
+            stopped: 0,
+        },
+    }
+}
+
+// Writes message 3 or 7, with explicit replies on only.
+pub(crate) fn deliver(replies: u8, message: SetMessage, set: u16, out: &mut [u8]) -> Written
+    requires { ⌜ set < 16 ⌝ }
+    ensures { λ r. ⌜ Delivers (explicitReply replies message set) (now (out .entry)) r (now (out .exit)) ⌝ }
+{
+    if replies == 2 {
+        return Written {
+            refusal: 0,
+            length: 0,
+        };
+    }
+    codec::write_set(message, set, out)
+}

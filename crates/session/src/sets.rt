@@ -1,0 +1,24 @@
+// Sets of technologies, made of a truth value for each.
+ghost use mathlib.Core.Path.{_≡_};
+ghost use mathlib.Core.Bool.{cond, _&&_};
+ghost use Prim.Native.Nat.{_≤_, _+_};
+ghost use Rattle.codec.specs.Technology.{bit};
+
+fn worth(on: bool, w: u16) -> u16
+    ensures { λ r. ⌜ (r ≡ cond on w 0) × (r ≤ w) ⌝ }
+{
+    if on { w } else { 0 }
+}
+
+pub(crate) fn set_of(uwb: bool, cs: bool, nan: bool, rssi: bool) -> u16
+    ensures { λ r. ⌜ r ≡ cond uwb 1 0 + (cond cs 2 0 + (cond nan 4 0 + cond rssi 8 0)) ⌝ }
+{
+    worth(uwb, 1) + (worth(cs, 2) + (worth(nan, 4) + worth(rssi, 8)))
+}
+
+// Whether two sets both have the bit of an ID.
+pub(crate) fn both_have(a: u16, b: u16, id: u8) -> bool
+    ensures { λ r. ⌜ r ≡ (bit a id && bit b id) ⌝ }
+{
+    codec::has(a, id) & codec::has(b, id)
+}

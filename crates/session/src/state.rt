@@ -1,0 +1,116 @@
+// The session record, and what its calls return.
+use codec::Capability;
+use codec::NanConfiguration;
+use codec::Rssi;
+use codec::UwbConfiguration;
+ghost use mathlib.Core.Path.{_≡_};
+ghost use Rattle.codec.specs.Records.{configurations, blank};
+ghost use Rattle.session.specs.Session.{noUwb, noNan, noRssi, fresh};
+
+// What the tag can do, with the choice of explicit replies: 0 not said, which means on, 1 on, 2 off.
+#[repr(C)]
+pub struct Profile {
+    pub set: u16,
+    pub replies: u8,
+    pub capability: Capability,
+}
+
+// Whether a technology is ranging, 0 no and anything else yes, and its settings in force; zero if it is not.
+#[repr(C)]
+pub struct UwbState {
+    pub ranging: u8,
+    pub settings: UwbConfiguration,
+}
+
+#[repr(C)]
+pub struct NanState {
+    pub ranging: u8,
+    pub settings: NanConfiguration,
+}
+
+#[repr(C)]
+pub struct RssiState {
+    pub ranging: u8,
+    pub settings: Rssi,
+}
+
+// The mark, 0 no and anything else yes: a Stop has ended UWB ranging since UWB's capabilities were last given out.
+#[repr(C)]
+pub struct Session {
+    pub profile: Profile,
+    pub uwb: UwbState,
+    pub nan: NanState,
+    pub rssi: RssiState,
+    pub mark: u8,
+}
+
+// A refusal's number, length 0 and two empty sets, or 0, the reply's length, what the call set and what it stopped.
+#[repr(C)]
+pub struct Answer {
+    pub refusal: u8,
+    pub length: usize,
+    pub set: u16,
+    pub stopped: u16,
+}
+
+// The session after a call, and the call's answer.
+#[repr(C)]
+pub struct Step {
+    pub session: Session,
+    pub answer: Answer,
+}
+
+// A refusal's number and a fresh session with an empty profile, or 0 and a fresh session with the profile.
+#[repr(C)]
+pub struct Started {
+    pub session: Session,
+    pub refusal: u8,
+}
+
+pub(crate) fn no_uwb() -> UwbState
+    ensures { λ r. ⌜ r ≡ noUwb ⌝ }
+{
+    let zero = codec::zero_configuration();
+    let settings = zero.uwb;
+    UwbState {
+        ranging: 0,
+        settings,
+    }
+}
+
+pub(crate) fn no_nan() -> NanState
+    ensures { λ r. ⌜ r ≡ noNan ⌝ }
+{
+    let zero = codec::zero_configuration();
+    let settings = zero.nan;
+    NanState {
+        ranging: 0,
+        settings,
+    }
+}
+
+pub(crate) fn no_rssi() -> RssiState
+    ensures { λ r. ⌜ r ≡ noRssi ⌝ }
+{
+    let zero = codec::zero_configuration();
+    let settings = zero.rssi;
+    RssiState {
+        ranging: 0,
+        settings,
+    }
+}
+
+pub(crate) fn fresh(profile: Profile) -> Session
+    ensures { λ r. ⌜ r ≡ fresh profile ⌝ }
+{
+    let uwb = no_uwb();
+    let nan = no_nan();
+    let rssi = no_rssi();
+    Session {
+        profile,
+        uwb,
+        nan,
+        rssi,
+        mark: 0,
+    }
+}

@@ -1,0 +1,82 @@
+// Whether settings lie within the profile. Channel, preamble index and config ID each have their own bit rule.
+use codec::Channel;
+use codec::Channels;
+use codec::ConfigId;
+use codec::ConfigIds;
+use codec::CsCapability;
+use codec::CsConfiguration;
+use codec::NanCapability;
+use codec::NanConfiguration;
+use codec::PreambleIndex;
+use codec::PreambleIndexes;
+use codec::UwbCapability;
+use codec::UwbConfiguration;
+ghost use mathlib.Core.Path.{_≡_};
+ghost use mathlib.Core.Bool.{_&&_};
+ghost use lib.Dec.{leb};
+ghost use Rattle.codec.specs.Technology.{bit};
+ghost use Rattle.session.specs.Technology.{uwb, cs, nan, hasConfigId, hasChannel, hasPreambleIndex, hasRole, within};
+
+// Whether a number is at most 31 and has its bit.
+fn has_bit(bits: u32, n: u8) -> bool
+    ensures { λ r. ⌜ r ≡ (leb n 31 && bit bits n) ⌝ }
+{
+    if n <= 31 {
+        return (bits >> n) % 2 == 1;
+    }
+    false
+}
+
+fn has_config_id(ids: ConfigIds, id: ConfigId) -> bool
+    ensures { λ r. ⌜ r ≡ hasConfigId ids id ⌝ }
+{
+    has_bit(ids.0, id.0)
+}
+
+fn has_channel(channels: Channels, channel: Channel) -> bool
+    ensures { λ r. ⌜ r ≡ hasChannel channels channel ⌝ }
+{
+    has_bit(channels.0, channel.0)
+}
+
+fn has_preamble_index(indexes: PreambleIndexes, index: PreambleIndex) -> bool
+    ensures { λ r. ⌜ r ≡ hasPreambleIndex indexes index ⌝ }
+{
+    if index.0 < 1 {
+        return false;
+    }
+    if 32 < index.0 {
+        return false;
+    }
+    has_bit(indexes.0, index.0 - 1)
+}
+
+fn has_role(roles: u8, role: u8) -> bool
+    ensures { λ r. ⌜ r ≡ hasRole roles role ⌝ }
+{
+    let bits = roles as u16;
+    ((role == 1) & codec::has(bits, 0)) | ((role == 2) & codec::has(bits, 1))
+}
+
+pub(crate) fn within_uwb(k: UwbCapability, x: UwbConfiguration) -> bool
+    ensures { λ r. ⌜ r ≡ within uwb k x ⌝ }
+{
+    let config_id = has_config_id(k.config_ids, x.config_id);
+    let channel = has_channel(k.channels, x.channel);
+    let preamble_index = has_preamble_index(k.preamble_indexes, x.preamble_index);
+    let timing = (k.shortest_interval <= x.interval)
+        & ((k.shortest_slot <= x.slot) & has_role(k.roles, x.role));
+    config_id & (channel & (preamble_index & timing))
+}
+
+pub(crate) fn within_cs(k: CsCapability, x: CsConfiguration) -> bool
+    ensures { λ r. ⌜ r ≡ within cs k x ⌝ }
+{
+    codec::has(k.security_types as u16, x.security_level)
+}
+
+pub(crate) fn within_nan(k: NanCapability, x: NanConfiguration) -> bool
+    ensures { λ r. ⌜ r ≡ within nan k x ⌝ }
+{
+    (x.periodic != 1) | (k.periodic == 1)
+}
