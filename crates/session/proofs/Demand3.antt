@@ -124,7 +124,7 @@ unfolding ledgerOf
 in-force s t = refl
 
 module _ (r : Record) (n : ℕ) where
-  abbrev profile : Profile
+  abbrev pub profile : Profile
   profile = record { set = r .set; replies = n; capability = r .capability }
 
   profile-valid : fits r n ≡ true → validProfile profile ≡ true

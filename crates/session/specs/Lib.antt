@@ -1,6 +1,7 @@
 pub mod Technology
 pub mod Rules
 pub mod Ledger
+pub mod History
 pub mod Session
 pub mod Trace
 pub mod Replies

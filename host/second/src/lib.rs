@@ -1,5 +1,6 @@
-//! Second, independent implementation of the ranging codec: reader and writer
-//! of the six messages of version 1, written from the customer's papers alone.
+//! Second, independent implementation of the ranging tag: reader and writer of
+//! the six messages of version 1 and the tag's session, written from the
+//! customer's papers alone.
 #![no_std]
 #![forbid(unsafe_code)]
 
@@ -9,11 +10,13 @@ extern crate std;
 mod reader;
 mod record;
 mod refusal;
+mod session;
 mod valid;
 mod writer;
 
 pub use reader::read;
 pub use record::*;
 pub use refusal::Refusal;
+pub use session::*;
 pub use valid::is_valid;
 pub use writer::write;

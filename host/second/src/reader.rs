@@ -7,50 +7,89 @@ use crate::valid::*;
 
 /// Reads a message of any length.
 pub fn read(message: &[u8]) -> Result<Record, Refusal> {
-    if message.len() > MAX_MESSAGE {
-        return Err(Refusal::TooLong);
-    }
-    let (&[version, id], rest) = message.split_first_chunk().ok_or(Refusal::EndsEarly)?;
-    if matches!(id, 4 | 5 | 8..) {
-        return Err(Refusal::ReservedId);
-    }
-    if version == 0 || (version > VERSION && id > CAPABILITY_RESPONSE) {
-        return Err(Refusal::Version);
-    }
-    let (set, rest) = take_set(rest)?;
+    let message = Message::new(message)?;
     let mut record = Record::ZERO;
-    record.id = id;
-    record.set = set & KNOWN;
-    read_parts(version, set, rest, &mut record)?;
+    record.id = message.id;
+    record.set = message.named();
+    match message.id {
+        CAPABILITY_RESPONSE => message.capability(&mut record.capability)?,
+        CONFIGURATION => message.configuration(&mut record.configuration)?,
+        _ => message.nothing_else()?,
+    }
     Ok(record)
+}
+
+/// A message whose head and first set are read.
+pub(crate) struct Message<'a> {
+    version: u8,
+    pub id: u8,
+    /// Reserved bits included.
+    set: u16,
+    /// From the first set to the end of the message.
+    rest: &'a [u8],
+}
+
+impl<'a> Message<'a> {
+    #[inline]
+    pub fn new(message: &'a [u8]) -> Result<Self, Refusal> {
+        if message.len() > MAX_MESSAGE {
+            return Err(Refusal::TooLong);
+        }
+        let (&[version, id], rest) = message.split_first_chunk().ok_or(Refusal::EndsEarly)?;
+        if matches!(id, 4 | 5 | 8..) {
+            return Err(Refusal::ReservedId);
+        }
+        if version == 0 || (version > VERSION && id > CAPABILITY_RESPONSE) {
+            return Err(Refusal::Version);
+        }
+        let (set, rest) = take_set(rest)?;
+        Ok(Message { version, id, set, rest })
+    }
+
+    /// The technologies that the message names.
+    pub fn named(&self) -> u16 {
+        self.set & KNOWN
+    }
+
+    /// Reads the rest of a message that carries a set and nothing else.
+    pub fn nothing_else(&self) -> Result<(), Refusal> {
+        self.end(self.rest)
+    }
+
+    /// Reads the rest of a Capability Response.
+    pub fn capability(&self, out: &mut Capability) -> Result<(), Refusal> {
+        let mut walk = Walk {
+            due: self.set,
+            rest: self.rest,
+        };
+        read_capability(&mut walk, out)?;
+        self.end(walk.rest)
+    }
+
+    /// Reads the rest of a Configuration.
+    pub fn configuration(&self, out: &mut Configuration) -> Result<(), Refusal> {
+        let (again, rest) = take_set(self.rest)?;
+        if again != self.set {
+            return Err(Refusal::SetsDiffer);
+        }
+        let mut walk = Walk { due: self.set, rest };
+        read_configuration(&mut walk, out)?;
+        self.end(walk.rest)
+    }
+
+    /// Only a later version may have octets left over.
+    fn end(&self, left: &[u8]) -> Result<(), Refusal> {
+        if self.version == VERSION && !left.is_empty() {
+            return Err(Refusal::LeftOver);
+        }
+        Ok(())
+    }
 }
 
 /// Takes a technology set, reserved bits included.
 fn take_set(rest: &[u8]) -> Result<(u16, &[u8]), Refusal> {
     let (&set, rest) = rest.split_first_chunk().ok_or(Refusal::EndsEarly)?;
     Ok((u16::from_le_bytes(set), rest))
-}
-
-/// Reads what follows the first set, to the end of the message.
-#[inline(never)] // smaller and faster: the record stays in memory
-fn read_parts(version: u8, set: u16, rest: &[u8], record: &mut Record) -> Result<(), Refusal> {
-    let mut walk = Walk { due: set, rest };
-    match record.id {
-        CAPABILITY_RESPONSE => read_capability(&mut walk, &mut record.capability)?,
-        CONFIGURATION => {
-            let (again, rest) = take_set(rest)?;
-            if again != set {
-                return Err(Refusal::SetsDiffer);
-            }
-            walk.rest = rest;
-            read_configuration(&mut walk, &mut record.configuration)?;
-        }
-        _ => {}
-    }
-    if version == VERSION && !walk.rest.is_empty() {
-        return Err(Refusal::LeftOver);
-    }
-    Ok(())
 }
 
 fn read_capability(walk: &mut Walk, out: &mut Capability) -> Result<(), Refusal> {

@@ -51,21 +51,23 @@ pub fn is_valid(record: &Record) -> bool {
         capability,
         configuration,
     } = record;
-    if set & !KNOWN != 0 {
-        return false;
-    }
     match *id {
         CAPABILITY_RESPONSE => is_capability(capability, *set) && *configuration == Configuration::ZERO,
         CONFIGURATION => is_configuration(configuration, *set) && *capability == Capability::ZERO,
         CAPABILITY_REQUEST | CONFIGURATION_RESPONSE | STOP | STOP_RESPONSE => {
-            *capability == Capability::ZERO && *configuration == Configuration::ZERO
+            is_set(*set) && *capability == Capability::ZERO && *configuration == Configuration::ZERO
         }
         _ => false,
     }
 }
 
-/// Whether the capability part is valid for the set.
-fn is_capability(capability: &Capability, set: u16) -> bool {
+/// Whether the set has no reserved bit.
+fn is_set(set: u16) -> bool {
+    set & !KNOWN == 0
+}
+
+/// Whether the set and the capability part of a record are valid together.
+pub(crate) fn is_capability(capability: &Capability, set: u16) -> bool {
     const ZERO: Capability = Capability::ZERO;
     let Capability { uwb, cs, nan, rssi } = capability;
     let uwb_valid = if names(set, UWB) {
@@ -78,10 +80,14 @@ fn is_capability(capability: &Capability, set: u16) -> bool {
     } else {
         *nan == ZERO.nan
     };
-    uwb_valid && nan_valid && (names(set, CS) || *cs == ZERO.cs) && (names(set, RSSI) || *rssi == ZERO.rssi)
+    is_set(set)
+        && uwb_valid
+        && nan_valid
+        && (names(set, CS) || *cs == ZERO.cs)
+        && (names(set, RSSI) || *rssi == ZERO.rssi)
 }
 
-/// Whether the configuration part is valid for the set.
+/// Whether the set and the configuration part of a record are valid together.
 fn is_configuration(configuration: &Configuration, set: u16) -> bool {
     const ZERO: Configuration = Configuration::ZERO;
     let Configuration { uwb, cs, nan, rssi } = configuration;
@@ -100,7 +106,7 @@ fn is_configuration(configuration: &Configuration, set: u16) -> bool {
     } else {
         *nan == ZERO.nan
     };
-    uwb_valid && cs_valid && nan_valid && (names(set, RSSI) || *rssi == ZERO.rssi)
+    is_set(set) && uwb_valid && cs_valid && nan_valid && (names(set, RSSI) || *rssi == ZERO.rssi)
 }
 
 fn is_uwb_configuration(uwb: &UwbConfiguration) -> bool {

@@ -10,49 +10,60 @@ pub fn write(record: &Record, out: &mut [u8]) -> Result<usize, Refusal> {
     if !is_valid(record) {
         return Err(Refusal::NotValid);
     }
-    let length = normal_length(record);
+    match record.id {
+        CAPABILITY_RESPONSE => write_capability(record.set, &record.capability, out),
+        CONFIGURATION => write_configuration(record.set, &record.configuration, out),
+        id => write_set(id, record.set, out),
+    }
+}
+
+/// Writes a message that carries a set and nothing else.
+pub(crate) fn write_set(id: u8, set: u16, out: &mut [u8]) -> Result<usize, Refusal> {
+    let message = out.first_chunk_mut().ok_or(Refusal::ShortBuffer)?;
+    *message = head(id, set);
+    Ok(message.len())
+}
+
+/// Writes a Capability Response with the blocks of the set.
+pub(crate) fn write_capability(set: u16, capability: &Capability, out: &mut [u8]) -> Result<usize, Refusal> {
+    let length = 4 + blocks_length(set, [20, 9, 6, 8]);
     let out = out.get_mut(..length).ok_or(Refusal::ShortBuffer)?;
     // The length is that of the normal form, so nothing is refused from here on.
-    put_message(record, out).ok_or(Refusal::ShortBuffer)?;
+    put_capability(set, capability, out).ok_or(Refusal::ShortBuffer)?;
     Ok(length)
 }
 
-/// Length of the normal form of a valid record.
-fn normal_length(record: &Record) -> usize {
-    let (head, needs) = match record.id {
-        CAPABILITY_RESPONSE => (4, [20, 9, 6, 8]),
-        CONFIGURATION => {
-            let uwb = 19 + usize::from(record.configuration.uwb.key_length);
-            let nan = 5 + usize::from(record.configuration.nan.name_length);
-            (6, [uwb, 9, nan, 8])
-        }
-        _ => return 4,
-    };
-    let mut length = head;
+/// Writes a Configuration with the blocks of the set, which are valid.
+fn write_configuration(set: u16, configuration: &Configuration, out: &mut [u8]) -> Result<usize, Refusal> {
+    let uwb = 19 + usize::from(configuration.uwb.key_length);
+    let nan = 5 + usize::from(configuration.nan.name_length);
+    let length = 6 + blocks_length(set, [uwb, 9, nan, 8]);
+    let out = out.get_mut(..length).ok_or(Refusal::ShortBuffer)?;
+    // As above.
+    put_configuration(set, configuration, out).ok_or(Refusal::ShortBuffer)?;
+    Ok(length)
+}
+
+/// Length of the blocks of a set, from the needs by technology ID.
+fn blocks_length(set: u16, needs: [usize; 4]) -> usize {
+    let mut length = 0;
     for (technology, need) in (UWB..).zip(needs) {
-        if names(record.set, technology) {
+        if names(set, technology) {
             length += need;
         }
     }
     length
 }
 
-fn put_message(record: &Record, out: &mut [u8]) -> Option<()> {
-    let set = record.set.to_le_bytes();
-    let (head, rest) = out.split_first_chunk_mut()?;
-    *head = [VERSION, record.id, set[0], set[1]];
-    match record.id {
-        CAPABILITY_RESPONSE => put_capability(record.set, &record.capability, rest),
-        CONFIGURATION => {
-            let (again, rest) = rest.split_first_chunk_mut()?;
-            *again = set;
-            put_configuration(record.set, &record.configuration, rest)
-        }
-        _ => Some(()),
-    }
+/// The first octets of every message.
+fn head(id: u8, set: u16) -> [u8; 4] {
+    let [low, high] = set.to_le_bytes();
+    [VERSION, id, low, high]
 }
 
-fn put_capability(set: u16, capability: &Capability, mut out: &mut [u8]) -> Option<()> {
+fn put_capability(set: u16, capability: &Capability, out: &mut [u8]) -> Option<()> {
+    let (start, mut out) = out.split_first_chunk_mut()?;
+    *start = head(CAPABILITY_RESPONSE, set);
     if names(set, UWB) {
         out = put_uwb_capability(&capability.uwb, out)?;
     }
@@ -71,7 +82,11 @@ fn put_capability(set: u16, capability: &Capability, mut out: &mut [u8]) -> Opti
     Some(())
 }
 
-fn put_configuration(set: u16, configuration: &Configuration, mut out: &mut [u8]) -> Option<()> {
+fn put_configuration(set: u16, configuration: &Configuration, out: &mut [u8]) -> Option<()> {
+    let (start, out) = out.split_first_chunk_mut()?;
+    *start = head(CONFIGURATION, set);
+    let (again, mut out) = out.split_first_chunk_mut()?;
+    *again = set.to_le_bytes();
     if names(set, UWB) {
         out = put_uwb_configuration(&configuration.uwb, out)?;
     }

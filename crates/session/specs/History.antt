@@ -1,0 +1,103 @@
+-- Demand 3 in the customer's words: what ranges after a list of calls, told by splitting the list at the calls that decide.
+use Prim.Native.Nat.{ℕ, _≤_}
+use mathlib.Core.Path.{_≡_}
+use mathlib.Core.List.{List, [], _∷_, _++_}
+use mathlib.Core.Option.{Option, none, some}
+use mathlib.Core.Logic.{_↔_, _⊎_}
+use mathlib.Core.Bool.{Bool, true, false, cond}
+use lib.ListN.{length}
+use Rattle.codec.specs.Refusal.{Checked, refuse, accept}
+use Rattle.codec.specs.Message.{reading}
+use Rattle.codec.specs.NormalForm.{normal}
+use Rattle.codec.specs.WellFormed.{Each}
+use Rattle.codec.specs.declared.records.Record.{Record}
+use Rattle.session.specs.declared.state.Profile.{Profile}
+use Rattle.session.specs.Technology.{Technology, Settings, settingsIn, capabilityIn, names, ranges, bars, within}
+use Rattle.session.specs.Rules.{Call, message, advertisement, lent, Kind, request, configuration, stop, other, kindOf, explicit, capabilityReply}
+
+-- ---- accepted calls
+
+-- what a call's message reads
+abbrev pub read : Checked Record → Option Record
+read (refuse x) = none
+read (accept r) = some r
+
+abbrev pub heard : Call → Option Record
+heard (message m b) = read (reading m)
+heard (advertisement b) = none
+
+-- none of the later calls does it, each taken after those before it
+abbrev pub Never : {A : Type 0} → (List Call → Call → A → Type 0) → List Call → List Call → Type 0
+Never Does before [] = Unit {0}
+Never {A} Does before (c ∷ later) = ((x : A) → Does before c x → ⊥) × Never Does (before ++ c ∷ []) later
+
+module _ (p : Profile) where
+  -- the reply fits the buffer: messages 3 and 7 have four octets, and with explicit replies off none
+  abbrev pub Fits : Kind → Record → ℕ → Type 0
+  Fits request r n = length (normal (capabilityReply p (names (r .set)))) ≤ n
+  Fits configuration r n = cond (explicit (p .replies)) 4 0 ≤ n
+  Fits stop r n = cond (explicit (p .replies)) 4 0 ≤ n
+  Fits other r n = ⊥
+
+  pub record Accepted (k : Kind) (c : Call) (r : Record) : Type 0 where
+    pub says : heard c ≡ some r
+    pub kind : kindOf (r .id) ≡ k
+    pub room : Fits k r (length (lent c))
+
+  pub record Advertised (c : Call) : Type 0 where
+    pub is : c ≡ advertisement (lent c)
+    pub room : length (normal (capabilityReply p (λ t. true))) ≤ length (lent c)
+
+  -- an accepted Stop naming it
+  pub record Stops (t : Technology) (c : Call) : Type 0 where
+    pub content : Record
+    pub accepted : Accepted stop c content
+    pub named : names (content .set) t ≡ true
+
+  -- its capabilities are given out: in reply to a Request naming it, or by an advertisement
+  pub record Asked (t : Technology) (c : Call) : Type 0 where
+    pub content : Record
+    pub accepted : Accepted request c content
+    pub named : names (content .set) t ≡ true
+
+  abbrev pub GivesOut : Technology → Call → Type 0
+  GivesOut t c = (names (p .set) t ≡ true) × (Asked t c ⊎ Advertised c)
+
+  -- ---- the words, of any account of what ranges with which settings after each list of calls
+
+  module _ (Ranges : List Call → (t : Technology) → Settings t → Type 0) where
+    -- a Stop among the calls has ended its ranging, and its capabilities were not given out since
+    pub record Barred (t : Technology) (calls : List Call) : Type 0 where
+      pub before : List Call
+      pub at : Call
+      pub since : List Call
+      pub split : calls ≡ before ++ at ∷ since
+      pub stops : Stops t at
+      pub settings : Settings t
+      pub ranged : Ranges before t settings
+      pub withheld : Each (λ c. GivesOut t c → ⊥) since
+
+    -- a call that comes after these sets it: an accepted Configuration that names it, and the profile has it, with settings
+    -- within the profile; for UWB no Stop has ended its ranging since its capabilities were last given out
+    pub record Sets (t : Technology) (calls : List Call) (c : Call) (x : Settings t) : Type 0 where
+      pub content : Record
+      pub accepted : Accepted configuration c content
+      pub named : names (content .set) t ≡ true
+      pub has : names (p .set) t ≡ true
+      pub fit : within t (capabilityIn (p .capability) t) (settingsIn (content .configuration) t) ≡ true
+      pub free : bars t ≡ true → Barred t calls → ⊥
+      pub settings : settingsIn (content .configuration) t ≡ x
+
+    -- some accepted Configuration set it with these settings, and no accepted Stop naming it came after the last that did
+    pub record LastSet (t : Technology) (calls : List Call) (x : Settings t) : Type 0 where
+      pub before : List Call
+      pub at : Call
+      pub later : List Call
+      pub split : calls ≡ before ++ at ∷ later
+      pub set : Sets t before at x
+      pub last : Never (Sets t) (before ++ at ∷ []) later
+      pub kept : Each (λ c. Stops t c → ⊥) later
+
+    pub record Words : Type 0 where
+      pub told : (t : Technology) → ranges t ≡ true → (calls : List Call) (x : Settings t) → Ranges calls t x ↔ LastSet t calls x
+      pub never : (t : Technology) → ranges t ≡ false → (calls : List Call) (x : Settings t) → Ranges calls t x → ⊥
