@@ -1,31 +1,8 @@
 // Reads the messages that the rules give to check, and some for what is easy to get wrong, and prints a line for each:
 // what it is, the reader's answer, and whether an accepted message comes back when its record is written.
-use libc::STDOUT_FILENO;
 ghost use mathlib.Core.Path.{_≡_};
 ghost use lib.ListN.{length};
 ghost use Rattle.check_messages.specs.Starts.{starts};
-
-fn print(text: &[u8]) {
-    io::write_all(STDOUT_FILENO, text);
-}
-
-fn print_set(set: u16) {
-    if set == 0 {
-        print(b" none");
-    }
-    if set % 2 == 1 {
-        print(b" UWB");
-    }
-    if set / 2 % 2 == 1 {
-        print(b" CS");
-    }
-    if set / 4 % 2 == 1 {
-        print(b" NAN");
-    }
-    if set / 8 % 2 == 1 {
-        print(b" RSSI");
-    }
-}
 
 // Whether a message stands at the start of a buffer.
 fn starts(message: &[u8], out: &[u8]) -> bool
@@ -49,33 +26,33 @@ fn print_written(message: &[u8], value: codec::Record) {
     let mut out = [0u8; 256];
     let written = codec::write(value, &mut out);
     if written.refusal != 0 {
-        print(b", not written: ");
-        io::print_decimal(STDOUT_FILENO, written.refusal as u64);
+        show::text(b", not written: ");
+        show::number(written.refusal as u64);
     } else if written.length == message.len() && starts(message, &out) {
-        print(b", unchanged");
+        show::text(b", unchanged");
     } else {
-        print(b", changed to ");
-        io::print_decimal(STDOUT_FILENO, written.length as u64);
-        print(b" octets");
+        show::text(b", changed to ");
+        show::number(written.length as u64);
+        show::text(b" octets");
     }
 }
 
 // "NAME: refused 9", or "NAME: message 0: UWB RSSI, unchanged".
 fn check(name: &[u8], message: &[u8]) {
     let reading = codec::read(message);
-    print(name);
+    show::text(name);
     if reading.refusal != 0 {
-        print(b": refused ");
-        io::print_decimal(STDOUT_FILENO, reading.refusal as u64);
+        show::text(b": refused ");
+        show::number(reading.refusal as u64);
     } else {
-        print(b": message ");
+        show::text(b": message ");
         let value = reading.value;
-        io::print_decimal(STDOUT_FILENO, value.id as u64);
-        print(b":");
-        print_set(value.set);
+        show::number(value.id as u64);
+        show::text(b":");
+        show::set(value.set);
         print_written(message, value);
     }
-    print(b"\n");
+    show::text(b"\n");
 }
 
 fn starred_heads() {

@@ -114,16 +114,16 @@ module _ (p : Profile) where
           none-given (inr d) = no-advertisement d a
       turn-mark (stopped r a e) = by-bool (bars t && (names (r .set) t && isSome (l t .inForce)))
           (λ y.
-            let z = and-true (bars t) (names (r .set) t && isSome (l t .inForce)) y in
-            let w = and-true (names (r .set) t) (isSome (l t .inForce)) (z .1) in
-            some-of (l t .inForce) (w .1) (λ x q. inl (record {
-              content = tt;
-              puts = record { barring = z .0; stops = record { content = r; accepted = a; named = w .0 }; settings = x; ranged = q };
-              only = λ u h. refl;
-              now = marked-by e ∙ rw (y, or-true (l t .mark));
-            })))
+          let z = and-true (bars t) (names (r .set) t && isSome (l t .inForce)) y in
+          let w = and-true (names (r .set) t) (isSome (l t .inForce)) (z .1) in
+          some-of (l t .inForce) (w .1) (λ x q. inl (record {
+            content = tt;
+            puts = record { barring = z .0; stops = record { content = r; accepted = a; named = w .0 }; settings = x; ranged = q };
+            only = λ u h. refl;
+            now = marked-by e ∙ rw (y, or-true (l t .mark));
+          })))
           (λ n. left (ap (λ (k : Ledger). k t .mark) e ∙ rw (n, or-false (l t .mark))) (λ g. none-given (g .1))
-            (λ h. clash (both (h .barring) (both (ap (λ (x : Record). names (x .set) t) (same-content a (h .stops .accepted)) ∙ h .stops .named) (is-some (h .ranged)))) n))
+          (λ h. clash (both (h .barring) (both (ap (λ (x : Record). names (x .set) t) (same-content a (h .stops .accepted)) ∙ h .stops .named) (is-some (h .ranged)))) n))
         where
           none-given : Asked p t c ⊎ Advertised p c → ⊥
           none-given (inl q) = no-request-stop (q .accepted) a

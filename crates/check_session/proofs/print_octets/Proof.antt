@@ -1,0 +1,55 @@
+use Prim.Native.Nat.{_-_}
+use native.Mathlib.Omega.{arith}
+use lib.ListN.{length}
+use borrow.Author.Needs.{needs}
+use Rattle.check_session.proofs.print_octets.Statement.{statement}
+use Rattle.check_session.proofs.print_octets.Tie as tie
+
+abbrev Inv-loop : tie.InvT-loop
+Inv-loop out count i₀ i = Unit {0}
+
+abbrev μ-loop : tie.MeasureT-loop
+μ-loop out count i₀ i = length out - i
+
+slice-aggregate-text : tie.Need-slice-aggregate-text Inv-loop μ-loop
+slice-aggregate-text c = search needs
+
+text-requires : tie.Need-text-requires Inv-loop μ-loop
+text-requires c κs = search needs
+
+loop-holds : tie.Need-loop-holds Inv-loop μ-loop
+loop-holds c = tt
+
+shared-slice-read-print-octet : tie.Need-shared-slice-read-print-octet Inv-loop μ-loop
+shared-slice-read-print-octet c = omega arith
+
+print-octet-requires : tie.Need-print-octet-requires Inv-loop μ-loop
+print-octet-requires c κs = search needs
+
+add-i : tie.Need-add-i Inv-loop μ-loop
+add-i c = omega arith
+
+loop-less : tie.Need-loop-less Inv-loop μ-loop
+loop-less c = omega arith
+
+loop-again : tie.Need-loop-again Inv-loop μ-loop
+loop-again c = tt
+
+returns : tie.Need-returns Inv-loop μ-loop
+returns c = tt
+
+pub print-octets-spec : {M : Type 1} → statement M
+print-octets-spec =
+    tie.close
+    (tie.spec
+    Inv-loop
+    μ-loop
+    slice-aggregate-text
+    text-requires
+    loop-holds
+    shared-slice-read-print-octet
+    print-octet-requires
+    add-i
+    loop-less
+    loop-again
+    returns)
