@@ -49,10 +49,12 @@ fn serve(s: Session, r: Record, out: &mut [u8]) -> Step
     ensures { λ v. ⌜ Gives s (serve sessionKeeps (s .profile) (kindOf (r .id)) r s (now (out .entry))) (now (out .entry)) v (now (out .exit)) ⌝ }
 {
     let id = r.id;
-    let c = r.configuration;
     match id {
         0 => give_out(s, r.set, out),
-        2 => configure(s, r.set, c, out),
+        2 => {
+            let c = r.configuration;
+            configure(s, r.set, c, out)
+        }
         6 => halt(s, r.set, out),
         _ => refused(s, NOT_FOR_TAG),
     }

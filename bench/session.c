@@ -1,0 +1,96 @@
+/* Measures a call of a session with all four technologies, by the proved library or by the second implementation.
+
+   session proved|second CALL          makes the call once, for callgrind to count its instructions
+   session stack proved|second CALL    prints how many octets of stack the call used, beside its arguments and result
+
+   CALL is request, configuration, stop (with three technologies ranging), or advertisement. */
+#include "measure.h"
+#include "session.h"
+
+struct second_session {
+    uint8_t octets[256];
+};
+struct second_answer {
+    uint8_t octets[32];
+};
+struct second_session second_start(const struct second_reading *profile, uint8_t replies);
+struct second_answer second_message(struct second_session *session, const uint8_t *octets, size_t length, uint8_t *out,
+                                    size_t room);
+struct second_answer second_advertise(struct second_session *session, uint8_t *out, size_t room);
+
+static struct raydulcimer_step step;
+static struct second_session second;
+static struct second_answer answer;
+static uint8_t out[RAYDULCIMER_MESSAGE_LIMIT];
+
+/* With the same arguments and results as the measured calls, and no stack of their own. */
+static struct raydulcimer_step no_message(struct raydulcimer_session s, const uint8_t *m, size_t n, uint8_t *o, size_t r)
+{
+    (void)s, (void)m, (void)n, (void)o, (void)r;
+    return step;
+}
+static struct raydulcimer_step no_advertise(struct raydulcimer_session s, uint8_t *o, size_t r)
+{
+    (void)s, (void)o, (void)r;
+    return step;
+}
+static struct second_answer no_second_message(struct second_session *s, const uint8_t *m, size_t n, uint8_t *o, size_t r)
+{
+    (void)s, (void)m, (void)n, (void)o, (void)r;
+    return answer;
+}
+static struct second_answer no_second_advertise(struct second_session *s, uint8_t *o, size_t r)
+{
+    (void)s, (void)o, (void)r;
+    return answer;
+}
+
+static __typeof__(no_message) *volatile give = session_message;
+static __typeof__(no_advertise) *volatile advertise = session_advertise;
+static __typeof__(no_second_message) *volatile give_second = second_message;
+static __typeof__(no_second_advertise) *volatile advertise_second = second_advertise;
+
+static void call_message(void) { step = give(step.session, message, length, out, sizeof out); }
+static void call_advertise(void) { step = advertise(step.session, out, sizeof out); }
+static void call_second_message(void) { answer = give_second(&second, message, length, out, sizeof out); }
+static void call_second_advertise(void) { answer = advertise_second(&second, out, sizeof out); }
+
+/* Fresh sessions; for a Stop with everything set before. */
+static void begin(const char *call)
+{
+    choose("response");
+    struct second_reading profile = second_read(message, length);
+    step.session = session_start(raydulcimer_read(message, length).value, 0).session;
+    second = second_start(&profile, 0);
+    if (!strcmp(call, "stop")) {
+        choose("configuration");
+        step = session_message(step.session, message, length, out, sizeof out);
+        second_message(&second, message, length, out, sizeof out);
+    }
+}
+
+int main(int argc, char **argv)
+{
+    int stacked = argc == 4 && !strcmp(argv[1], "stack");
+    int known = argc == 3 + stacked;
+    const char *name = known ? argv[2 + stacked] : "";
+    int advertisement = !strcmp(name, "advertisement");
+    if (!known || !(advertisement || choose(name))) {
+        fprintf(stderr, "usage: session [stack] proved|second request|configuration|stop|advertisement\n");
+        return 2;
+    }
+    begin(name);
+    if (!advertisement) choose(name);
+    int proved = !strcmp(argv[1 + stacked], "proved");
+    void (*call)(void) = proved ? (advertisement ? call_advertise : call_message)
+                                : (advertisement ? call_second_advertise : call_second_message);
+    if (stacked) {
+        size_t full = used(call);
+        give = no_message, advertise = no_advertise;
+        give_second = no_second_message, advertise_second = no_second_advertise;
+        printf("%zu\n", full - used(call));
+    } else {
+        call();
+    }
+    return step.answer.refusal != 0;
+}
