@@ -24,7 +24,7 @@ use Rattle.codec.proofs.Outcomes.{and-true}
 use Rattle.codec.proofs.Layouts.{fits, within, within-le}
 use Rattle.codec.proofs.Puts.{put-then}
 
-cond-le : (b : Bool) (n : ℕ) → cond b n 0 ≤ n
+pub cond-le : (b : Bool) (n : ℕ) → cond b n 0 ≤ n
 cond-le true n = omega arith
 cond-le false n = omega arith
 

@@ -20,7 +20,7 @@ use Rattle.session.specs.declared.state.Profile.{Profile}
 use Rattle.session.specs.Technology.{Technology, names, setOf}
 use Rattle.session.specs.Rules.{Call, message, advertisement, lent, Kind, request, configuration, stop, other, kindOf, explicit, octetsOf, shows, capabilityReply, explicitReply, Served, conclude, after, giveOut, setBy, configure, endedBy, halt, serve, call, answerTo}
 use Rattle.session.specs.Ledger.{Ledger, ledgerKeeps, ledgerCall}
-use Rattle.session.specs.History.{read, heard, Fits, Accepted, Advertised}
+use Rattle.session.specs.History.{accepted, heard, Fits, Accepted, Advertised}
 
 -- ---- a call is accepted as one thing at the most
 
@@ -82,7 +82,7 @@ module _ (p : Profile) (l : Ledger) (b : List ℕ) where
     c = message m b
 
     says : heard c ≡ some r
-    says = ap read e
+    says = ap accepted e
 
     to : (k : Kind) → kindOf (r .id) ≡ k → ledgerCall p l c ≡ serve ledgerKeeps p k r l b
     unfolding call
@@ -131,7 +131,7 @@ happened p l (message m b) = go (reading m) refl
     go : (o : Checked Record) → reading m ≡ o → Happened p l (message m b)
     go (refuse x) e =
         refused (ap (λ (o : Checked Record). after l (andThen o λ q. serve ledgerKeeps p (kindOf (q .id)) q l b)) e)
-        (λ k r a. Option·none-ne-some r (sym (ap read e) ∙ a .says))
+        (λ k r a. Option·none-ne-some r (sym (ap accepted e) ∙ a .says))
         (λ d. let z = ap isMessage (d .is) in omega arith)
     go (accept r) e = by-kind p l b m r e (kindOf (r .id)) refl
 happened p l (advertisement b) =
@@ -145,9 +145,9 @@ unfolding serve configure
 configured-set p l (message m b) r a = go (reading m) refl
   where
     go : (o : Checked Record) → reading m ≡ o → answerTo (ledgerCall p l (message m b)) .set ≡ setOf (setBy ledgerKeeps p (r .set) (r .configuration) l)
-    go (refuse x) e = absurd (Option·none-ne-some r (sym (ap read e) ∙ a .says))
+    go (refuse x) e = absurd (Option·none-ne-some r (sym (ap accepted e) ∙ a .says))
     go (accept q) e =
-        let s = e ∙ ap (λ (y : Record). accept y) (Option·some-injective q r (sym (ap read e) ∙ a .says)) in
+        let s = e ∙ ap (λ (y : Record). accept y) (Option·some-injective q r (sym (ap accepted e) ∙ a .says)) in
         let z = reply-length (explicit (p .replies)) SetMessage.ConfigurationResponse (setOf (setBy ledgerKeeps p (r .set) (r .configuration) l)) in
         ap (λ (o : Checked (Served Ledger)). answerTo o .set) (to p l b m r s configuration (a .kind) ∙ fits b _ (rw z (a .room)))
 configured-set p l (advertisement b) r a = absurd (Option·none-ne-some r (a .says))

@@ -1,13 +1,10 @@
 -- Sets made of a truth value for each technology.
-use Prim.Native.Nat.{ℕ, _≤_, _<_}
+use Prim.Native.Nat.{_<_}
 use native.Mathlib.Omega.{arith}
 use mathlib.Core.Path.{_≡_, refl}
-use mathlib.Core.Bool.{Bool, true, false, cond}
+use mathlib.Core.Bool.{Bool, true, false}
+use Rattle.codec.proofs.Pieces.{cond-le}
 use Rattle.session.specs.Technology.{Technology, uwb, cs, nan, rssi, among, names, setOf}
-
-cond-le : (b : Bool) (n : ℕ) → cond b n 0 ≤ n
-cond-le true n = omega arith
-cond-le false n = omega arith
 
 pub set-below : (f : Technology → Bool) → setOf f < 16
 set-below f = omega (arith, cond-le (f uwb) 1, cond-le (f cs) 2, cond-le (f nan) 4, cond-le (f rssi) 8)

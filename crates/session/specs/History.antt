@@ -17,13 +17,13 @@ use Rattle.session.specs.Rules.{Call, message, advertisement, lent, Kind
 
 -- ---- accepted calls
 
--- what a call's message reads
-abbrev pub read : Checked Record → Option Record
-read (refuse x) = none
-read (accept r) = some r
+abbrev pub accepted : Checked Record → Option Record
+accepted (refuse x) = none
+accepted (accept r) = some r
 
+-- the record of a call's message, if the reader accepts it
 abbrev pub heard : Call → Option Record
-heard (message m b) = read (reading m)
+heard (message m b) = accepted (reading m)
 heard (advertisement b) = none
 
 -- none of the later calls does it, each taken after those before it

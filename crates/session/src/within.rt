@@ -42,13 +42,15 @@ fn has_channel(channels: Channels, channel: Channel) -> bool
 fn has_preamble_index(indexes: PreambleIndexes, index: PreambleIndex) -> bool
     ensures { λ r. ⌜ r ≡ hasPreambleIndex indexes index ⌝ }
 {
-    if index.0 < 1 {
+    let bits = indexes.0;
+    let n = index.0;
+    if n < 1 {
         return false;
     }
-    if 32 < index.0 {
+    if 32 < n {
         return false;
     }
-    has_bit(indexes.0, index.0 - 1)
+    has_bit(bits, n - 1)
 }
 
 fn has_role(roles: u8, role: u8) -> bool

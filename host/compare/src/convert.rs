@@ -50,40 +50,43 @@ block!(
 );
 block!(to_rssi, of_rssi, Rssi, [], [address]);
 
+/// The same for the blocks of a message.
+macro_rules! blocks {
+    ($to:ident, $of:ident, $name:ident, [$($field:ident $to_block:ident $of_block:ident),*]) => {
+        fn $to(r: &plain::$name) -> proved::$name {
+            proved::$name { $($field: $to_block(&r.$field),)* }
+        }
+        fn $of(r: &proved::$name) -> plain::$name {
+            plain::$name { $($field: $of_block(&r.$field),)* }
+        }
+    };
+}
+
+blocks!(to_capability, of_capability, Capability, [
+    uwb to_uwb_capability of_uwb_capability, cs to_cs_capability of_cs_capability,
+    nan to_nan_capability of_nan_capability, rssi to_rssi of_rssi
+]);
+blocks!(to_configuration, of_configuration, Configuration, [
+    uwb to_uwb_configuration of_uwb_configuration, cs to_cs_configuration of_cs_configuration,
+    nan to_nan_configuration of_nan_configuration, rssi to_rssi of_rssi
+]);
+
 pub fn to_library(r: &plain::Record) -> proved::Record {
+    let (capability, configuration) = (to_capability(&r.capability), to_configuration(&r.configuration));
     proved::Record {
         id: r.id,
         set: r.set,
-        capability: proved::Capability {
-            uwb: to_uwb_capability(&r.capability.uwb),
-            cs: to_cs_capability(&r.capability.cs),
-            nan: to_nan_capability(&r.capability.nan),
-            rssi: to_rssi(&r.capability.rssi),
-        },
-        configuration: proved::Configuration {
-            uwb: to_uwb_configuration(&r.configuration.uwb),
-            cs: to_cs_configuration(&r.configuration.cs),
-            nan: to_nan_configuration(&r.configuration.nan),
-            rssi: to_rssi(&r.configuration.rssi),
-        },
+        capability,
+        configuration,
     }
 }
 
 pub fn of_library(r: &proved::Record) -> plain::Record {
+    let (capability, configuration) = (of_capability(&r.capability), of_configuration(&r.configuration));
     plain::Record {
         id: r.id,
         set: r.set,
-        capability: plain::Capability {
-            uwb: of_uwb_capability(&r.capability.uwb),
-            cs: of_cs_capability(&r.capability.cs),
-            nan: of_nan_capability(&r.capability.nan),
-            rssi: of_rssi(&r.capability.rssi),
-        },
-        configuration: plain::Configuration {
-            uwb: of_uwb_configuration(&r.configuration.uwb),
-            cs: of_cs_configuration(&r.configuration.cs),
-            nan: of_nan_configuration(&r.configuration.nan),
-            rssi: of_rssi(&r.configuration.rssi),
-        },
+        capability,
+        configuration,
     }
 }

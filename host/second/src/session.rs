@@ -220,71 +220,42 @@ fn has_bit(bits: u32, bit: u8) -> bool {
 #[cfg(test)]
 mod tests {
     use super::*;
-    use crate::writer::write;
+    use crate::writer::{tests as samples, write};
     use std::vec::Vec;
 
-    const ADDRESS: [u8; 6] = [0xA1, 0xA2, 0xA3, 0xA4, 0xA5, 0xA6];
     const UNTOUCHED: [u8; 64] = [0x55; 64];
 
     /// A profile with channel 9, preamble indexes 9 to 12 and config IDs 0 and 1.
     fn profile(set: u16) -> Record {
-        let mut record = Record::ZERO;
-        record.id = CAPABILITY_RESPONSE;
-        record.set = set;
+        let mut record = samples::capability(set);
         let out = &mut record.capability;
         if names(set, UWB) {
-            out.uwb = UwbCapability {
-                address: [0xB1, 0xB2],
-                channels: 1 << 9,
-                preamble_indexes: 0x0F00,
-                config_ids: 3,
-                shortest_interval: 120,
-                shortest_slot: 1,
-                roles: 2,
-            };
+            out.uwb.channels = 1 << 9;
+            out.uwb.preamble_indexes = 0x0F00;
+            out.uwb.config_ids = 3;
+            out.uwb.shortest_interval = 120;
+            out.uwb.shortest_slot = 1;
+            out.uwb.roles = 2;
         }
         if names(set, CS) {
             out.cs.security_types = 0b10010;
-            out.cs.address = ADDRESS;
         }
-        if names(set, NAN) {
-            out.nan.features = 1;
-        }
-        if names(set, RSSI) {
-            out.rssi.address = ADDRESS;
-        }
+        out.nan.periodic = 0;
         record
     }
 
     /// A Configuration that fits the profile.
     fn configuration(set: u16) -> Record {
-        let mut record = Record::ZERO;
-        record.id = CONFIGURATION;
-        record.set = set;
+        let mut record = samples::configuration(set, 8, 1);
         let out = &mut record.configuration;
         if names(set, UWB) {
-            out.uwb = UwbConfiguration {
-                address: [0xC1, 0xC2],
-                session_id: 7,
-                config_id: 1,
-                channel: 9,
-                preamble_index: 12,
-                interval: 120,
-                slot: 1,
-                key_length: 8,
-                key: [0; 32],
-                country: *b"CH",
-                role: 2,
-                mode: 1,
-            };
-            out.uwb.key[..8].fill(0xCC);
+            out.uwb.config_id = 1;
+            out.uwb.preamble_index = 12;
+            out.uwb.interval = 120;
+            out.uwb.role = 2;
         }
         if names(set, CS) {
             out.cs.security_level = 1;
-        }
-        if names(set, NAN) {
-            out.nan.name_length = 1;
-            out.nan.name[0] = b'n';
         }
         if names(set, RSSI) {
             out.rssi.address = [1; 6];

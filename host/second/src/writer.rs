@@ -171,13 +171,13 @@ fn put_octets<'a>(octets: &[u8], out: &'a mut [u8]) -> Option<&'a mut [u8]> {
 }
 
 #[cfg(test)]
-mod tests {
+pub(crate) mod tests {
     use super::*;
     use crate::reader::read;
 
     const ADDRESS: [u8; 6] = [0xA1, 0xA2, 0xA3, 0xA4, 0xA5, 0xA6];
 
-    fn capability(set: u16) -> Record {
+    pub(crate) fn capability(set: u16) -> Record {
         let mut record = Record::ZERO;
         record.id = CAPABILITY_RESPONSE;
         record.set = set;
@@ -211,7 +211,7 @@ mod tests {
         record
     }
 
-    fn configuration(set: u16, key_length: u8, name_length: u8) -> Record {
+    pub(crate) fn configuration(set: u16, key_length: u8, name_length: u8) -> Record {
         let mut record = Record::ZERO;
         record.id = CONFIGURATION;
         record.set = set;

@@ -1,33 +1,7 @@
-// Runs the session examples that the rules give, and what is easy to get wrong, and prints a line for each call: its reply,
-// what it set, what it stopped, and what ranges afterwards.
+// Sessions: of each call its reply, what it set, what it stopped, and what ranges afterwards.
+use crate::show;
 use session::Answer;
 use session::Session;
-
-fn digit(n: u8) -> u8 {
-    match n {
-        0..=9 => b'0' + n,
-        10..=15 => b'A' + (n - 10),
-        16..=255 => b'?',
-    }
-}
-
-fn print_octet(x: u8) {
-    show::text(&[b' ', digit(x / 16), digit(x % 16)]);
-}
-
-// The first octets of a buffer.
-fn print_octets(out: &[u8], count: usize) {
-    if count == 0 {
-        show::text(b" none");
-    }
-    let mut i = 0;
-    while i < out.len() {
-        if i < count {
-            print_octet(out[i]);
-        }
-        i += 1;
-    }
-}
 
 fn print_ranging(s: Session) {
     show::text(b"; ranging");
@@ -54,7 +28,7 @@ fn report(name: &[u8], answer: Answer, out: &[u8], s: Session) {
         show::number(answer.refusal as u64);
     } else {
         show::text(b": reply");
-        print_octets(out, answer.length);
+        show::octets(out, answer.length);
         show::text(b"; set");
         show::set(answer.set);
         show::text(b"; stopped");
@@ -214,7 +188,7 @@ fn quiet() {
     hear(b"Stop, replies off", s, b"\x01\x06\x0F\x00");
 }
 
-fn main() {
+pub(crate) fn run() {
     rssi_only();
     unfit();
     barred();

@@ -6,8 +6,8 @@ use native.Mathlib.Numerals.{add-one}
 use native.Mathlib.Omega.{arith}
 use Prim.Native.Nat.{_-_}
 use mathlib.Core.Path.{_≡_, refl, sym, _∙_}
-use Rattle.check_messages.proofs.starts.Statement.{statement}
-use Rattle.check_messages.proofs.starts.Tie as tie
+use Rattle.check_messages.proofs.messages.starts.Statement.{statement}
+use Rattle.check_messages.proofs.messages.starts.Tie as tie
 
 abbrev Inv-loop : tie.InvT-loop
 Inv-loop message out i₀ i = starts message out ≡ starts (drop i message) (drop i out)

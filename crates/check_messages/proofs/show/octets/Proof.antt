@@ -2,8 +2,8 @@ use Prim.Native.Nat.{_-_}
 use native.Mathlib.Omega.{arith}
 use lib.ListN.{length}
 use borrow.Author.Needs.{needs}
-use Rattle.check_session.proofs.print_octets.Statement.{statement}
-use Rattle.check_session.proofs.print_octets.Tie as tie
+use Rattle.check_messages.proofs.show.octets.Statement.{statement}
+use Rattle.check_messages.proofs.show.octets.Tie as tie
 
 abbrev Inv-loop : tie.InvT-loop
 Inv-loop out count i₀ i = Unit {0}
@@ -20,11 +20,11 @@ text-requires c κs = search needs
 loop-holds : tie.Need-loop-holds Inv-loop μ-loop
 loop-holds c = tt
 
-shared-slice-read-print-octet : tie.Need-shared-slice-read-print-octet Inv-loop μ-loop
-shared-slice-read-print-octet c = omega arith
+shared-slice-read-octet : tie.Need-shared-slice-read-octet Inv-loop μ-loop
+shared-slice-read-octet c = omega arith
 
-print-octet-requires : tie.Need-print-octet-requires Inv-loop μ-loop
-print-octet-requires c κs = search needs
+octet-requires : tie.Need-octet-requires Inv-loop μ-loop
+octet-requires c κs = search needs
 
 add-i : tie.Need-add-i Inv-loop μ-loop
 add-i c = omega arith
@@ -38,8 +38,8 @@ loop-again c = tt
 returns : tie.Need-returns Inv-loop μ-loop
 returns c = tt
 
-pub print-octets-spec : {M : Type 1} → statement M
-print-octets-spec =
+pub octets-spec : {M : Type 1} → statement M
+octets-spec =
     tie.close
     (tie.spec
     Inv-loop
@@ -47,8 +47,8 @@ print-octets-spec =
     slice-aggregate-text
     text-requires
     loop-holds
-    shared-slice-read-print-octet
-    print-octet-requires
+    shared-slice-read-octet
+    octet-requires
     add-i
     loop-less
     loop-again
