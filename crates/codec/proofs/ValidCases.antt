@@ -1,12 +1,14 @@
 -- A record's validity, test by test.
 use Prim.Native.Nat.{ℕ}
-use mathlib.Core.Path.{_≡_, refl, sym}
-use mathlib.Core.Bool.{Bool, true, false, _&&_, true≢false, and-true}
+use mathlib.Core.Path.{_≡_, refl, sym, _∙_}
+use mathlib.Core.Bool.{Bool, true, false, cond, not, _&&_, _||_, true≢false, and-true}
 use lib.Dec.{ltb}
 use Rattle.codec.specs.Octets.{allZero}
+use Rattle.codec.specs.Technology.{bit}
+use Rattle.codec.specs.Blocks.{uwbCapability, csCapability, nanCapability, rssiBlock}
 use Rattle.codec.specs.Message.{assigned}
-use Rattle.codec.specs.Records.{capabilities, configurations, blank, response, setRecord}
-use Rattle.codec.specs.Valid.{setIn, validColumn, valid}
+use Rattle.codec.specs.Records.{capabilities, configurations, blank, response, part, setRecord, ofUwbCapability, ofCsCapability, ofNanCapability, ofRssi}
+use Rattle.codec.specs.Valid.{validFields, setIn, validColumn, valid}
 use Rattle.codec.specs.declared.records.Capability.{Capability}
 use Rattle.codec.specs.declared.records.Record.{Record}
 use Rattle.codec.specs.declared.records.SetMessage.{SetMessage}
@@ -42,6 +44,27 @@ blank-configurations = refl
 pub response-valid : (set : ℕ) (c : Capability) → valid (response set c) ≡ (ltb set 16 && validColumn capabilities set c)
 unfolding valid assigned
 response-valid set c = rw (blank-configurations, and-true (validColumn capabilities set c))
+
+-- fields that the set leaves out are zero, and any that it names of CS and RSSI are allowed
+pub part-valid : (set : ℕ) (c : Capability) → valid (response set (part set c)) ≡ (ltb set 16 && ((not (bit set 0) || validFields uwbCapability true (ofUwbCapability (c .uwb))) && (not (bit set 2) || validFields nanCapability true (ofNanCapability (c .nan)))))
+unfolding validColumn allZero
+part-valid set c = response-valid set (part set c) ∙ rw (uwb (bit set 0), cs (bit set 1), nan (bit set 2), rssi (bit set 3), and-true (not (bit set 2) || validFields nanCapability true (ofNanCapability (c .nan))))
+  where
+    uwb : (a : Bool) → validFields uwbCapability a (ofUwbCapability (cond a (c .uwb) (blank capabilities .uwb))) ≡ (not a || validFields uwbCapability true (ofUwbCapability (c .uwb)))
+    uwb true = refl
+    uwb false = refl
+
+    cs : (a : Bool) → validFields csCapability a (ofCsCapability (cond a (c .cs) (blank capabilities .cs))) ≡ true
+    cs true = refl
+    cs false = refl
+
+    nan : (a : Bool) → validFields nanCapability a (ofNanCapability (cond a (c .nan) (blank capabilities .nan))) ≡ (not a || validFields nanCapability true (ofNanCapability (c .nan)))
+    nan true = refl
+    nan false = refl
+
+    rssi : (a : Bool) → validFields rssiBlock a (ofRssi (cond a (c .rssi) (blank capabilities .rssi))) ≡ true
+    rssi true = refl
+    rssi false = refl
 
 pub set-valid : (message : SetMessage) (set : ℕ) → valid (setRecord message set) ≡ ltb set 16
 unfolding valid assigned

@@ -1,5 +1,7 @@
 -- Records: the structs of the code as columns of 01's table. A record does not hold the version.
 use Prim.Native.Nat.{ℕ, zero, suc}
+use mathlib.Core.Bool.{cond}
+use Rattle.codec.specs.Technology.{bit}
 use Rattle.codec.specs.Layout.{Layout, Values, zeroes}
 use Rattle.codec.specs.Blocks.{uwbCapability, csCapability, nanCapability, uwbConfiguration, csConfiguration, nanConfiguration, rssiBlock, capabilityBlock, configurationBlock}
 use Rattle.codec.specs.Refusal.{Checked, refuse, accept, numberOf}
@@ -15,6 +17,7 @@ use Rattle.codec.specs.declared.records.Configuration.{Configuration}
 use Rattle.codec.specs.declared.records.Record.{Record}
 use Rattle.codec.specs.declared.records.SetMessage.{SetMessage}
 use Rattle.codec.specs.declared.records.Reading.{Reading}
+use Rattle.codec.specs.declared.records.TagReading.{TagReading}
 
 -- ---- a block's fields as the struct of the code that holds them
 
@@ -131,6 +134,15 @@ zeroRecord = record { id = 0; set = 0; capability = blank capabilities; configur
 abbrev pub response : ℕ → Capability → Record
 response set c = record { id = 1; set = set; capability = c; configuration = blank configurations }
 
+-- those that a set names, and all other fields zero
+abbrev pub part : ℕ → Capability → Capability
+part set c = record {
+  uwb = cond (bit set 0) (c .uwb) (blank capabilities .uwb);
+  cs = cond (bit set 1) (c .cs) (blank capabilities .cs);
+  nan = cond (bit set 2) (c .nan) (blank capabilities .nan);
+  rssi = cond (bit set 3) (c .rssi) (blank capabilities .rssi);
+}
+
 -- a message that carries a set and nothing else
 abbrev pub messageId : SetMessage → ℕ
 messageId SetMessage.Request = 0
@@ -152,3 +164,7 @@ refused n = record { refusal = n; value = zeroRecord }
 abbrev pub answer : Checked Record → Reading
 answer (refuse x) = refused (numberOf x)
 answer (accept r) = accepted r
+
+-- what a tag reads: the answer without the capability
+abbrev pub forTag : Reading → TagReading
+forTag a = record { refusal = a .refusal; id = a .value .id; set = a .value .set; configuration = a .value .configuration }

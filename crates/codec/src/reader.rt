@@ -7,6 +7,7 @@ use crate::records::Capability;
 use crate::records::Configuration;
 use crate::records::Reading;
 use crate::records::Record;
+use crate::records::TagReading;
 use crate::records::refused;
 use crate::records::zero_capability;
 use crate::records::zero_configuration;
@@ -17,7 +18,7 @@ ghost use mathlib.Core.Bool.{true};
 ghost use Prim.Native.Nat.{_+_, _≤_};
 ghost use lib.ListN.{length, getD, replicate};
 ghost use Rattle.codec.specs.Message.{idOf, carriesBlocks, layoutsOf, reading};
-ghost use Rattle.codec.specs.Records.{capabilities, configurations, answer};
+ghost use Rattle.codec.specs.Records.{capabilities, configurations, accepted, answer, forTag};
 ghost use Rattle.codec.specs.Places.{Placed, blockOrZeros, columnAt, recordAt};
 
 // The octets of the block at a place; zeros, which read as zero fields, for place 0.
@@ -106,4 +107,47 @@ pub fn read(message: &[u8]) -> Reading
     }
     let value = record_at(message, &found);
     Reading { refusal: 0, value }
+}
+
+// What a tag reads of a message that is not refused.
+fn for_tag_at(m: &[u8], found: &[u16; 5]) -> TagReading
+    requires { ⌜ (4 ≤ length (now m)) × (carriesBlocks (idOf (now m)) ≡ true → Placed (layoutsOf (idOf (now m))) (now m) (now found)) ⌝ }
+    ensures { λ r. ⌜ r ≡ forTag (accepted (recordAt (now (m .entry)) (now (found .entry)))) ⌝ }
+{
+    let id = m[1];
+    let named = u16_at(m, 2) % 16;
+    if id == 2 {
+        let settings = configuration_at(m, found);
+        return TagReading {
+            refusal: 0,
+            id,
+            set: named,
+            configuration: settings,
+        };
+    }
+    let none = zero_configuration();
+    TagReading {
+        refusal: 0,
+        id,
+        set: named,
+        configuration: none,
+    }
+}
+
+// Reads a message as `read` does, without the capability.
+pub fn read_for_tag(message: &[u8]) -> TagReading
+    ensures { λ r. ⌜ r ≡ forTag (answer (reading (now (message .entry)))) ⌝ }
+{
+    let mut found = [0u16; 5];
+    let fault = message_fault(message, &mut found);
+    if fault != 0 {
+        let configuration = zero_configuration();
+        return TagReading {
+            refusal: fault,
+            id: 0,
+            set: 0,
+            configuration,
+        };
+    }
+    for_tag_at(message, &found)
 }

@@ -57,6 +57,15 @@ pub struct Reading {
     pub value: Record,
 }
 
+// What a tag reads: the reader's answer without the capability, which no message to a tag has.
+#[repr(C)]
+pub struct TagReading {
+    pub refusal: u8,
+    pub id: u8,
+    pub set: u16,
+    pub configuration: Configuration,
+}
+
 // A refusal's number and 0 octets, or 0 and how many octets were written.
 #[repr(C)]
 pub struct Written {

@@ -15,11 +15,11 @@ use crate::rssi;
 use crate::technology::has;
 use crate::uwb;
 use crate::validity::valid;
-use crate::validity::valid_response;
+use crate::validity::valid_part;
 ghost use mathlib.Core.Path.{_≡_};
 ghost use Prim.Native.Nat.{_+_, _≤_};
 ghost use lib.ListN.{length};
-ghost use Rattle.codec.specs.Records.{capabilities, configurations, response, setRecord};
+ghost use Rattle.codec.specs.Records.{capabilities, configurations, response, part, setRecord};
 ghost use Rattle.codec.specs.NormalForm.{normal};
 ghost use Rattle.codec.specs.Writing.{Writes};
 ghost use Rattle.codec.specs.Puts.{Put, head, columnOctets, LongCapability, LongConfiguration, LongRecord, Fit};
@@ -137,11 +137,11 @@ pub fn write(value: Record, out: &mut [u8]) -> Written
     Written { refusal: 0, length }
 }
 
-// Writes a Capability Response with these blocks, as `write` does.
+// Writes a Capability Response with those of these blocks that the set names, as `write` does.
 pub fn write_response(set: u16, c: Capability, out: &mut [u8]) -> Written
-    ensures { λ r. ⌜ Writes (response set c) (now (out .entry)) r (now (out .exit)) ⌝ }
+    ensures { λ r. ⌜ Writes (response set (part set c)) (now (out .entry)) r (now (out .exit)) ⌝ }
 {
-    if !valid_response(set, c) {
+    if !valid_part(set, c) {
         return refused(NOT_VALID);
     }
     let length = 4 + size_capability(set, c);

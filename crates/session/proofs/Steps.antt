@@ -4,32 +4,32 @@ use native.Mathlib.Omega.{arith}
 use mathlib.Core.Path.{_≡_, refl, sym, ap, subst, fun-ext, _∙_}
 use mathlib.Core.List.{List}
 use mathlib.Core.Option.{none, some}
-use mathlib.Core.Bool.{Bool, true, false, cond, _&&_, and-false, true≢false}
+use mathlib.Core.Bool.{Bool, true, false, cond, not, _&&_, _||_, and-false, true≢false}
 use lib.Dec.{eqb, ltb, leb}
 use lib.ListN.{length}
 use borrow.Author.Tests.{lt-ltb, le-leb, ne-eqb}
-use Rattle.codec.specs.Layout.{Layout, Values, zeroed}
-use Rattle.codec.specs.Octets.{allZero}
+use Rattle.codec.specs.Layout.{Layout, Values}
 use Rattle.codec.specs.Refusal.{Checked, refuse, accept, demand, notValid}
-use Rattle.codec.specs.Blocks.{uwbCapability, csCapability, nanCapability, rssiBlock}
+use Rattle.codec.specs.Blocks.{uwbCapability, csCapability, nanCapability}
 use Rattle.codec.specs.Technology.{bit}
-use Rattle.codec.specs.Records.{capabilities, blank, response, setRecord, answer, ofUwbCapability, ofCsCapability, ofNanCapability, ofRssi}
+use Rattle.codec.specs.Records.{capabilities, response, setRecord, accepted, answer, forTag, ofUwbCapability, ofCsCapability, ofNanCapability}
 use Rattle.codec.specs.Message.{reading}
 use Rattle.codec.specs.Valid.{validFields, validColumn, valid}
+use Rattle.codec.specs.NormalForm.{normal}
 use Rattle.codec.specs.Writing.{writing, Writes}
 use Rattle.codec.specs.declared.records.Record.{Record}
-use Rattle.codec.specs.declared.records.Reading.{Reading}
+use Rattle.codec.specs.declared.records.TagReading.{TagReading}
 use Rattle.codec.specs.declared.records.SetMessage.{SetMessage}
 use Rattle.codec.specs.declared.records.Written.{Written}
 use Rattle.codec.proofs.Outcomes.{by-bool, and-true, no-zero}
-use Rattle.codec.proofs.ValidCases.{response-valid, set-valid}
+use Rattle.codec.proofs.ValidCases.{response-valid, part-valid, set-valid}
 use Rattle.session.specs.declared.state.Profile.{Profile}
 use Rattle.session.specs.declared.state.Session.{Session}
 use Rattle.session.specs.declared.state.Step.{Step}
 use Rattle.session.specs.Technology.{Technology, uwb, cs, nan, rssi, names, setOf}
-use Rattle.session.specs.Rules.{validProfile, Call, message, advertisement, Kind, request, configuration, stop, other, kindOf, octetsOf, replied, shows, shown, capabilityReply, Served, conclude, giveOut, configure, endedBy, halt, serve, call}
+use Rattle.session.specs.Rules.{validProfile, Call, message, advertisement, Kind, request, configuration, stop, other, kindOf, octetsOf, replied, shows, capabilityReply, Served, conclude, giveOut, configure, endedBy, halt, serve, call}
 use Rattle.session.specs.Session.{yes, rangingIn, sessionKeeps, sessionCall, Gives, profileOf}
-use Rattle.session.specs.Replies.{delivery, Delivers}
+use Rattle.session.specs.Replies.{delivery, Delivers, givenOut}
 use Rattle.session.proofs.SetLaws.{set-below, names-set}
 
 abbrev pub refusal : Session → ℕ → Step
@@ -49,15 +49,11 @@ pub silent : (b : List ℕ) → Delivers none b (record { refusal = 0; length = 
 unfolding delivery
 silent b = record { answers = rw (le-leb 0 (length b) zero-le); leaves = rw (le-leb 0 (length b) zero-le) }
 
--- what is shown of a valid capability is valid
-module _ {A : Type 0} (L : Layout) (of : A → Values L) (k z : A) (e : zeroed L (of z) ≡ true) where
-  chosen : (has named : Bool) → (has ≡ true → named ≡ true) → validFields L named (of k) ≡ true → validFields L has (of (cond has k z)) ≡ true
-  chosen false named i v = e
-  chosen true true i v = v
-  chosen true false i v = absurd (no (i refl))
-    where
-      no : _≡_ {A = Bool} false true → ⊥
-      no q = let x : _≡_ {A = ℕ} 0 1 = cc in omega arith
+-- fields that are valid where the profile names them are so where the reply does
+chosen : (L : Layout) (v : Values L) (has named : Bool) → (has ≡ true → named ≡ true) → validFields L named v ≡ true → (not has || validFields L true v) ≡ true
+chosen L v false named i e = refl
+chosen L v true true i e = e
+chosen L v true false i e = absurd (true≢false (sym (i refl)))
 
 module _ (p : Profile) (wanted : Technology → Bool) (v : validProfile p ≡ true) where
   has : (t : Technology) → shows p wanted t ≡ true → names (p .set) t ≡ true
@@ -65,26 +61,21 @@ module _ (p : Profile) (wanted : Technology → Bool) (v : validProfile p ≡ tr
   has t e = and-true (wanted t) (names (p .set) t) e .1
 
   pub reply-valid : valid (capabilityReply p wanted) ≡ true
-  unfolding validProfile validColumn allZero
+  unfolding validProfile validColumn
   reply-valid =
       let f = shows p wanted in
       let k = p .capability in
-      let z = blank capabilities in
       let w = rw (response-valid (p .set) k) at (and-true (valid (response (p .set) k)) (ltb (p .replies) 3) v .0) in
       let u = and-true (validFields uwbCapability (bit (p .set) 0) (ofUwbCapability (k .uwb))) _ (and-true (ltb (p .set) 16) (validColumn capabilities (p .set) k) w .1) in
       let c = and-true (validFields csCapability (bit (p .set) 1) (ofCsCapability (k .cs))) _ (u .1) in
       let n = and-true (validFields nanCapability (bit (p .set) 2) (ofNanCapability (k .nan))) _ (c .1) in
       rw (
-        response-valid (setOf f) (shown k f),
+        part-valid (setOf f) k,
         lt-ltb (setOf f) 16 (set-below f),
         names-set f uwb,
-        names-set f cs,
         names-set f nan,
-        names-set f rssi,
-        chosen uwbCapability ofUwbCapability (k .uwb) (z .uwb) refl (f uwb) _ (has uwb) (u .0),
-        chosen csCapability ofCsCapability (k .cs) (z .cs) refl (f cs) _ (has cs) (c .0),
-        chosen nanCapability ofNanCapability (k .nan) (z .nan) refl (f nan) _ (has nan) (n .0),
-        chosen rssiBlock ofRssi (k .rssi) (z .rssi) refl (f rssi) _ (has rssi) (n .1),
+        chosen uwbCapability (ofUwbCapability (k .uwb)) (f uwb) _ (has uwb) (u .0),
+        chosen nanCapability (ofNanCapability (k .nan)) (f nan) _ (has nan) (n .0),
       )
 
 -- ---- and the call goes as the writer says
@@ -102,6 +93,28 @@ module _ (s : Session) (v : Served Session) {b e : List ℕ} {w : Written} (d : 
       (λ t. absurd (z (rw t at (ap (λ (y : Written). y .refusal) (d .answers)))))
       (λ f. record { session = rw f; answer = rw (d .answers, f); buffer = rw (d .leaves, f) })
 
+-- a Capability Response that is delivered takes the mark where it shows UWB
+pub cleared : (s : Session) (wanted : Technology → Bool) (w : Written) → _≡_ {A = Step} (record {
+  session = record { profile = s .profile; uwb = s .uwb; nan = s .nan; rssi = s .rssi; mark = cond (shows (s .profile) wanted uwb && eqb (w .refusal) 0) 0 (s .mark) };
+  answer = record { refusal = w .refusal; length = w .length; set = 0; stopped = 0 };
+}) (givenOut s wanted w)
+cleared s wanted w = ap (λ (x : Session). record { session = x; answer = record { refusal = w .refusal; length = w .length; set = 0; stopped = 0 } }) (go (shows (s .profile) wanted uwb) (eqb (w .refusal) 0))
+  where
+    marked : ℕ → Session
+    marked n = record { profile = s .profile; uwb = s .uwb; nan = s .nan; rssi = s .rssi; mark = n }
+
+    go : (u z : Bool) → marked (cond (u && z) 0 (s .mark)) ≡ cond z (marked (cond u 0 (s .mark))) s
+    go true true = refl
+    go true false = refl
+    go false true = refl
+    go false false = refl
+
+pub gave-out : (s : Session) (wanted : Technology → Bool) {b e : List ℕ} {w : Written} → Delivers (some (capabilityReply (s .profile) wanted)) b w e → Gives s (giveOut sessionKeeps (s .profile) wanted s b) b (givenOut s wanted w) e
+unfolding giveOut conclude delivery replied
+gave-out s wanted {b} d = by-bool (leb (length (normal (capabilityReply (s .profile) wanted))) (length b))
+    (λ t. record { session = rw (d .answers, t); answer = rw (d .answers, t); buffer = rw (d .leaves, t) })
+    (λ f. record { session = rw (d .answers, f); answer = rw (d .answers, f); buffer = rw (d .leaves, f) })
+
 -- ---- what a Stop ends, where CS is never ranging
 
 pub ended-set : (p : Profile) (set : ℕ) (s : Session) → cond (bit set 0 && yes (s .uwb .ranging)) 1 0 + (cond false 2 0 + (cond (bit set 2 && yes (s .nan .ranging)) 4 0 + cond (bit set 3 && yes (s .rssi .ranging)) 8 0)) ≡ setOf (endedBy sessionKeeps p set s)
@@ -110,25 +123,8 @@ ended-set p set s = rw (and-false (bit set 1))
 
 -- ---- by the kind of message
 
-module _ (s : Session) (r : Record) {b e : List ℕ} {v : Step} where
-  by-kind : (k : Kind) → kindOf (r .id) ≡ k → Gives s (serve sessionKeeps (s .profile) k r s b) b v e → Gives s (serve sessionKeeps (s .profile) (kindOf (r .id)) r s b) b v e
-  by-kind k h g = subst (λ (k : Kind). Gives s (serve sessionKeeps (s .profile) k r s b) b v e) (sym h) g
-
-  pub a-request : r .id ≡ 0 → Gives s (giveOut sessionKeeps (s .profile) (names (r .set)) s b) b v e → Gives s (serve sessionKeeps (s .profile) (kindOf (r .id)) r s b) b v e
-  unfolding serve
-  a-request h g = by-kind request (ap kindOf h) g
-
-  pub a-configuration : r .id ≡ 2 → Gives s (configure sessionKeeps (s .profile) (r .set) (r .configuration) s b) b v e → Gives s (serve sessionKeeps (s .profile) (kindOf (r .id)) r s b) b v e
-  unfolding serve
-  a-configuration h g = by-kind configuration (ap kindOf h) g
-
-  pub a-stop : r .id ≡ 6 → Gives s (halt sessionKeeps (s .profile) (r .set) s b) b v e → Gives s (serve sessionKeeps (s .profile) (kindOf (r .id)) r s b) b v e
-  unfolding serve
-  a-stop h g = by-kind stop (ap kindOf h) g
-
-pub another : (s : Session) (r : Record) (b : List ℕ) → (r .id ≡ 0 → ⊥) → (r .id ≡ 2 → ⊥) → (r .id ≡ 6 → ⊥) → Gives s (serve sessionKeeps (s .profile) (kindOf (r .id)) r s b) b (refusal s 10) b
-unfolding serve
-another s r b h k l = by-kind s r other (rw (ne-eqb (r .id) 0 h, ne-eqb (r .id) 2 k, ne-eqb (r .id) 6 l)) (record { session = refl; answer = refl; buffer = refl })
+by-kind : (s : Session) (r : Record) {b e : List ℕ} {v : Step} (k : Kind) → kindOf (r .id) ≡ k → Gives s (serve sessionKeeps (s .profile) k r s b) b v e → Gives s (serve sessionKeeps (s .profile) (kindOf (r .id)) r s b) b v e
+by-kind s r {b} {e} {v} k h g = subst (λ (k : Kind). Gives s (serve sessionKeeps (s .profile) k r s b) b v e) (sym h) g
 
 -- ---- by the profile and the reading
 
@@ -136,22 +132,43 @@ pub not-valid : (s : Session) (c : Call) (b : List ℕ) → validProfile (s .pro
 unfolding sessionCall
 not-valid s c b h = rw h (record { session = refl; answer = refl; buffer = refl })
 
-module _ (s : Session) (m b : List ℕ) (v : validProfile (s .profile) ≡ true) {a : Reading} (h : a ≡ answer (reading m)) where
+same-id : {a : TagReading} (r : Record) (n : ℕ) → a ≡ forTag (accepted r) → a .id ≡ n → r .id ≡ n
+same-id r n q k = sym (ap (λ (y : TagReading). y .id) q) ∙ k
+
+module _ (s : Session) (m b : List ℕ) (v : validProfile (s .profile) ≡ true) {a : TagReading} (h : a ≡ forTag (answer (reading m))) where
   pub not-read : (a .refusal ≡ 0 → ⊥) → Gives s (sessionCall s (message m b)) b (refusal s (a .refusal)) b
   unfolding sessionCall call
   not-read z = go (reading m) refl
     where
       go : (o : Checked Record) → reading m ≡ o → Gives s (sessionCall s (message m b)) b (refusal s (a .refusal)) b
       go (refuse x) q = rw (v, h, q) (record { session = refl; answer = refl; buffer = refl })
-      go (accept r) q = absurd (z (ap (λ (y : Reading). y .refusal) (h ∙ ap answer q)))
+      go (accept r) q = absurd (z (ap (λ (y : TagReading). y .refusal) (h ∙ ap (λ (o : Checked Record). forTag (answer o)) q)))
 
-  pub was-read : a .refusal ≡ 0 → {w : Step} {e : List ℕ} → Gives s (serve sessionKeeps (s .profile) (kindOf (a .value .id)) (a .value) s b) b w e → Gives s (sessionCall s (message m b)) b w e
-  unfolding sessionCall call
-  was-read z {w} {e} g = go (reading m) refl
-    where
-      go : (o : Checked Record) → reading m ≡ o → Gives s (sessionCall s (message m b)) b w e
-      go (refuse x) q = absurd (no-zero x (sym (ap (λ (y : Reading). y .refusal) (h ∙ ap answer q)) ∙ z))
-      go (accept r) q = rw (v, q) (subst (λ (y : Record). Gives s (serve sessionKeeps (s .profile) (kindOf (y .id)) y s b) b w e) (ap (λ (y : Reading). y .value) (h ∙ ap answer q)) g)
+  module _ (z : a .refusal ≡ 0) {w : Step} {e : List ℕ} where
+    was-read : ((r : Record) → a ≡ forTag (accepted r) → Gives s (serve sessionKeeps (s .profile) (kindOf (r .id)) r s b) b w e) → Gives s (sessionCall s (message m b)) b w e
+    unfolding sessionCall call
+    was-read g = go (reading m) refl
+      where
+        go : (o : Checked Record) → reading m ≡ o → Gives s (sessionCall s (message m b)) b w e
+        go (refuse x) q = absurd (no-zero x (sym (ap (λ (y : TagReading). y .refusal) (h ∙ ap (λ (o : Checked Record). forTag (answer o)) q)) ∙ z))
+        go (accept r) q = rw (v, q) (g r (h ∙ ap (λ (o : Checked Record). forTag (answer o)) q))
+
+    pub a-request : a .id ≡ 0 → Gives s (giveOut sessionKeeps (s .profile) (names (a .set)) s b) b w e → Gives s (sessionCall s (message m b)) b w e
+    unfolding serve
+    a-request k g = was-read λ r q. by-kind s r request (ap kindOf (same-id r 0 q k)) (subst (λ (y : TagReading). Gives s (giveOut sessionKeeps (s .profile) (names (y .set)) s b) b w e) q g)
+
+    pub a-configuration : a .id ≡ 2 → Gives s (configure sessionKeeps (s .profile) (a .set) (a .configuration) s b) b w e → Gives s (sessionCall s (message m b)) b w e
+    unfolding serve
+    a-configuration k g = was-read λ r q. by-kind s r configuration (ap kindOf (same-id r 2 q k)) (subst (λ (y : TagReading). Gives s (configure sessionKeeps (s .profile) (y .set) (y .configuration) s b) b w e) q g)
+
+    pub a-stop : a .id ≡ 6 → Gives s (halt sessionKeeps (s .profile) (a .set) s b) b w e → Gives s (sessionCall s (message m b)) b w e
+    unfolding serve
+    a-stop k g = was-read λ r q. by-kind s r stop (ap kindOf (same-id r 6 q k)) (subst (λ (y : TagReading). Gives s (halt sessionKeeps (s .profile) (y .set) s b) b w e) q g)
+
+  pub another : a .refusal ≡ 0 → (a .id ≡ 0 → ⊥) → (a .id ≡ 2 → ⊥) → (a .id ≡ 6 → ⊥) → Gives s (sessionCall s (message m b)) b (refusal s 10) b
+  unfolding serve
+  another z h k l = was-read z λ r q. let i = ap (λ (y : TagReading). y .id) q in
+      by-kind s r other (rw (ne-eqb (r .id) 0 (λ x. h (i ∙ x)), ne-eqb (r .id) 2 (λ x. k (i ∙ x)), ne-eqb (r .id) 6 (λ x. l (i ∙ x)))) (record { session = refl; answer = refl; buffer = refl })
 
 -- an advertisement wants every technology
 pub advertised : (s : Session) (b : List ℕ) → validProfile (s .profile) ≡ true → {w : Step} {e : List ℕ} → Gives s (giveOut sessionKeeps (s .profile) (names 15) s b) b w e → Gives s (sessionCall s (advertisement b)) b w e

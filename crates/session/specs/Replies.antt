@@ -3,13 +3,18 @@ use Prim.Native.Nat.{ℕ}
 use mathlib.Core.Path.{_≡_}
 use mathlib.Core.List.{List}
 use mathlib.Core.Option.{Option}
-use lib.Dec.{leb}
+use mathlib.Core.Bool.{Bool, cond}
+use lib.Dec.{eqb, leb}
 use lib.ListN.{length}
 use Rattle.codec.specs.Refusal.{Checked, accept, demand, bufferTooShort}
 use Rattle.codec.specs.Writing.{written, buffer}
 use Rattle.codec.specs.declared.records.Record.{Record}
 use Rattle.codec.specs.declared.records.Written.{Written}
-use Rattle.session.specs.Rules.{octetsOf}
+use Rattle.session.specs.declared.state.Session.{Session}
+use Rattle.session.specs.declared.state.Step.{Step}
+use Rattle.session.specs.Technology.{Technology}
+use Rattle.session.specs.Rules.{octetsOf, shows}
+use Rattle.session.specs.Session.{sessionKeeps}
 
 -- the octets of a reply into a buffer of n octets
 unfoldable pub delivery : Option Record → ℕ → Checked (List ℕ)
@@ -18,3 +23,10 @@ delivery r n = demand (leb (length (octetsOf r)) n) bufferTooShort (accept (octe
 pub record Delivers (r : Option Record) (b : List ℕ) (w : Written) (e : List ℕ) : Type 0 where
   pub answers : w ≡ written (delivery r (length b))
   pub leaves : e ≡ buffer (delivery r (length b)) b
+
+-- the session and the answer once a Capability Response is delivered, or refused
+abbrev pub givenOut : Session → (Technology → Bool) → Written → Step
+givenOut s wanted w = record {
+  session = cond (eqb (w .refusal) 0) (sessionKeeps .give (shows (s .profile) wanted) s) s;
+  answer = record { refusal = w .refusal; length = w .length; set = 0; stopped = 0 };
+}

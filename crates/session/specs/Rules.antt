@@ -6,17 +6,16 @@ use mathlib.Core.Bool.{Bool, true, false, cond, not, _&&_}
 use lib.Dec.{leb, ltb, eqb}
 use lib.ListN.{length, drop}
 use Rattle.codec.specs.Refusal.{Checked, refuse, accept, demand, andThen, numberOf, notForTag, bufferTooShort}
-use Rattle.codec.specs.Records.{capabilities, blank, response, setRecord}
+use Rattle.codec.specs.Records.{response, part, setRecord}
 use Rattle.codec.specs.Message.{reading}
 use Rattle.codec.specs.Valid.{valid}
 use Rattle.codec.specs.NormalForm.{normal}
-use Rattle.codec.specs.declared.records.Capability.{Capability}
 use Rattle.codec.specs.declared.records.Configuration.{Configuration}
 use Rattle.codec.specs.declared.records.Record.{Record}
 use Rattle.codec.specs.declared.records.SetMessage.{SetMessage}
 use Rattle.session.specs.declared.state.Profile.{Profile}
 use Rattle.session.specs.declared.state.Answer.{Answer}
-use Rattle.session.specs.Technology.{Technology, uwb, cs, nan, rssi, capabilityIn, settingsIn, names, setOf, within}
+use Rattle.session.specs.Technology.{Technology, capabilityIn, settingsIn, names, setOf, within}
 
 -- ---- the profile
 
@@ -62,16 +61,8 @@ unfoldable pub shows : Profile → (Technology → Bool) → Technology → Bool
 shows p wanted t = wanted t && names (p .set) t
 
 -- message 1 with the profile's own blocks
-abbrev pub shown : Capability → (Technology → Bool) → Capability
-shown k has = record {
-  uwb = cond (has uwb) (k .uwb) (blank capabilities .uwb);
-  cs = cond (has cs) (k .cs) (blank capabilities .cs);
-  nan = cond (has nan) (k .nan) (blank capabilities .nan);
-  rssi = cond (has rssi) (k .rssi) (blank capabilities .rssi);
-}
-
 abbrev pub capabilityReply : Profile → (Technology → Bool) → Record
-capabilityReply p wanted = response (setOf (shows p wanted)) (shown (p .capability) (shows p wanted))
+capabilityReply p wanted = response (setOf (shows p wanted)) (part (setOf (shows p wanted)) (p .capability))
 
 -- messages 3 and 7 are written with explicit replies on only
 abbrev pub explicitReply : ℕ → SetMessage → ℕ → Option Record

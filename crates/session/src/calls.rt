@@ -1,5 +1,6 @@
 // The calls: start, message, advertise.
-use crate::capabilities::give_out;
+use crate::capabilities::deliver_capabilities;
+use crate::capabilities::given_out;
 use crate::configuration::configure;
 use crate::replies::refused;
 use crate::replies::valid_profile;
@@ -11,9 +12,8 @@ use crate::state::fresh;
 use crate::stop::halt;
 use codec::Record;
 ghost use mathlib.Core.Path.{_≡_};
-ghost use mathlib.Core.Bool.{true};
-ghost use Rattle.session.specs.Rules.{validProfile, message as heard, advertisement, kindOf, serve};
-ghost use Rattle.session.specs.Session.{sessionKeeps, sessionCall, Gives, profileOf, started};
+ghost use Rattle.session.specs.Rules.{message as heard, advertisement};
+ghost use Rattle.session.specs.Session.{sessionCall, Gives, profileOf, started};
 
 const NOT_FOR_TAG: u8 = 10;
 
@@ -44,22 +44,6 @@ pub fn start(profile: Record, replies: u8) -> Started
     }
 }
 
-fn serve(s: Session, r: Record, out: &mut [u8]) -> Step
-    requires { ⌜ validProfile (s .profile) ≡ true ⌝ }
-    ensures { λ v. ⌜ Gives s (serve sessionKeeps (s .profile) (kindOf (r .id)) r s (now (out .entry))) (now (out .entry)) v (now (out .exit)) ⌝ }
-{
-    let id = r.id;
-    match id {
-        0 => give_out(s, r.set, out),
-        2 => {
-            let c = r.configuration;
-            configure(s, r.set, c, out)
-        }
-        6 => halt(s, r.set, out),
-        _ => refused(s, NOT_FOR_TAG),
-    }
-}
-
 // A message to the tag.
 pub fn message(s: Session, octets: &[u8], out: &mut [u8]) -> Step
     ensures { λ r. ⌜ Gives s (sessionCall s (heard (now (octets .entry)) (now (out .entry)))) (now (out .entry)) r (now (out .exit)) ⌝ }
@@ -67,12 +51,24 @@ pub fn message(s: Session, octets: &[u8], out: &mut [u8]) -> Step
     if !valid_profile(s.profile) {
         return refused(s, NOT_VALID);
     }
-    let reading = codec::read(octets);
+    let reading = codec::read_for_tag(octets);
     if reading.refusal != 0 {
         return refused(s, reading.refusal);
     }
-    let r = reading.value;
-    serve(s, r, out)
+    let id = reading.id;
+    let set = reading.set;
+    match id {
+        0 => {
+            let w = deliver_capabilities(s.profile, set, out);
+            given_out(s, set, w)
+        }
+        2 => {
+            let c = reading.configuration;
+            configure(s, set, c, out)
+        }
+        6 => halt(s, set, out),
+        _ => refused(s, NOT_FOR_TAG),
+    }
 }
 
 // An advertisement of the whole profile.
@@ -82,5 +78,6 @@ pub fn advertise(s: Session, out: &mut [u8]) -> Step
     if !valid_profile(s.profile) {
         return refused(s, NOT_VALID);
     }
-    give_out(s, 15, out)
+    let w = deliver_capabilities(s.profile, 15, out);
+    given_out(s, 15, w)
 }

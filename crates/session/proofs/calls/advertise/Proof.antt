@@ -1,9 +1,16 @@
 use Rattle.codec.proofs.Laws.{failed, passed}
+use Rattle.session.specs.Technology.{names}
 use Rattle.session.specs.Rules.{advertisement}
-use Rattle.session.proofs.Steps.{not-valid, advertised}
+use Rattle.session.proofs.Steps.{not-valid, advertised, gave-out}
 use borrow.Author.Needs.{needs}
 use Rattle.session.proofs.calls.advertise.Statement.{statement}
 use Rattle.session.proofs.calls.advertise.Tie as tie
+use Rattle.session.proofs.calls.advertise.Reads as reads
+use Rattle.session.proofs.calls.advertise.Lts as lts
+use Rattle.session.proofs.capabilities.deliver_capabilities.Reads as deliver-capabilities-reads
+use Rattle.session.proofs.capabilities.given_out.Reads as given-out-reads
+use Rattle.session.proofs.replies.refused.Reads as refused-reads
+use Rattle.session.proofs.replies.valid_profile.Reads as valid-profile-reads
 
 valid-profile-requires : tie.Need-valid-profile-requires
 valid-profile-requires c κs = search needs
@@ -14,14 +21,17 @@ refused-requires c κs = search needs
 returns : tie.Need-returns
 returns c = rw (c .refused .ensures) (not-valid (c .before .before .before .before .args .s) (advertisement (c .before .before .before .before .args .out .now)) (c .before .before .before .before .args .out .now) (failed (c .before .before .valid-profile .ensures) (c .before .if1 .taken)))
 
-give-out-requires : tie.Need-give-out-requires
-give-out-requires c κs = passed (c .before .before .valid-profile .ensures) (c .before .if1 .left)
+deliver-capabilities-requires : tie.Need-deliver-capabilities-requires
+deliver-capabilities-requires c κs = passed (c .before .before .valid-profile .ensures) (c .before .if1 .left)
+
+given-out-requires : tie.Need-given-out-requires
+given-out-requires c κs = search needs
 
 same-length : tie.Need-same-length
 same-length c = search needs
 
 returns-2 : tie.Need-returns-2
-returns-2 c = advertised (c .before .before .before .before .before .before .before .args .s) (c .before .before .before .before .before .before .before .args .out .now) (passed (c .before .before .before .before .before .valid-profile .ensures) (c .before .before .before .before .if1 .left)) (c .before .before .give-out .ensures)
+returns-2 c = rw (c .given-out .ensures) (advertised (c .before .before .before .before .before .before .before .before .args .s) (c .before .before .before .before .before .before .before .before .args .out .now) (passed (c .before .before .before .before .before .before .valid-profile .ensures) (c .before .before .before .before .before .if1 .left)) (gave-out (c .before .before .before .before .before .before .before .before .args .s) (names 15) (c .before .before .before .deliver-capabilities .ensures)))
 
 pub advertise-spec : {M : Type 1} → statement M
 advertise-spec =
@@ -30,6 +40,7 @@ advertise-spec =
     valid-profile-requires
     refused-requires
     returns
-    give-out-requires
+    deliver-capabilities-requires
+    given-out-requires
     same-length
     returns-2)
