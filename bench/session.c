@@ -5,7 +5,6 @@
 
    CALL is request, configuration, stop (with three technologies ranging), or advertisement. */
 #include "measure.h"
-#include "session.h"
 
 struct second_session {
     uint8_t octets[256];
@@ -18,21 +17,22 @@ struct second_answer second_message(struct second_session *session, const uint8_
                                     size_t room);
 struct second_answer second_advertise(struct second_session *session, uint8_t *out, size_t room);
 
-static struct raydulcimer_step step;
+static struct raydulcimer_session session;
+static struct raydulcimer_answer said;
 static struct second_session second;
 static struct second_answer answer;
 static uint8_t out[RAYDULCIMER_MESSAGE_LIMIT];
 
 /* With the same arguments and results as the measured calls, and no stack of their own. */
-static struct raydulcimer_step no_message(struct raydulcimer_session s, const uint8_t *m, size_t n, uint8_t *o, size_t r)
+static struct raydulcimer_answer no_message(struct raydulcimer_session *s, const uint8_t *m, size_t n, uint8_t *o, size_t r)
 {
     (void)s, (void)m, (void)n, (void)o, (void)r;
-    return step;
+    return said;
 }
-static struct raydulcimer_step no_advertise(struct raydulcimer_session s, uint8_t *o, size_t r)
+static struct raydulcimer_answer no_advertise(struct raydulcimer_session *s, uint8_t *o, size_t r)
 {
     (void)s, (void)o, (void)r;
-    return step;
+    return said;
 }
 static struct second_answer no_second_message(struct second_session *s, const uint8_t *m, size_t n, uint8_t *o, size_t r)
 {
@@ -45,13 +45,13 @@ static struct second_answer no_second_advertise(struct second_session *s, uint8_
     return answer;
 }
 
-static __typeof__(no_message) *volatile give = session_message;
-static __typeof__(no_advertise) *volatile advertise = session_advertise;
+static __typeof__(no_message) *volatile give = raydulcimer_message;
+static __typeof__(no_advertise) *volatile advertise = raydulcimer_advertise;
 static __typeof__(no_second_message) *volatile give_second = second_message;
 static __typeof__(no_second_advertise) *volatile advertise_second = second_advertise;
 
-static void call_message(void) { step = give(step.session, message, length, out, sizeof out); }
-static void call_advertise(void) { step = advertise(step.session, out, sizeof out); }
+static void call_message(void) { said = give(&session, message, length, out, sizeof out); }
+static void call_advertise(void) { said = advertise(&session, out, sizeof out); }
 static void call_second_message(void) { answer = give_second(&second, message, length, out, sizeof out); }
 static void call_second_advertise(void) { answer = advertise_second(&second, out, sizeof out); }
 
@@ -60,11 +60,11 @@ static void begin(const char *call)
 {
     choose("response");
     struct second_reading profile = second_read(message, length);
-    step.session = session_start(raydulcimer_read(message, length).value, 0).session;
+    session = raydulcimer_start(raydulcimer_read(message, length).value, RAYDULCIMER_REPLIES_NOT_SAID).session;
     second = second_start(&profile, 0);
     if (!strcmp(call, "stop")) {
         choose("configuration");
-        step = session_message(step.session, message, length, out, sizeof out);
+        said = raydulcimer_message(&session, message, length, out, sizeof out);
         second_message(&second, message, length, out, sizeof out);
     }
 }
@@ -92,5 +92,5 @@ int main(int argc, char **argv)
     } else {
         call();
     }
-    return step.answer.refusal != 0;
+    return said.refusal != 0;
 }

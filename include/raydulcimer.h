@@ -1,8 +1,14 @@
 /* Raydulcimer: the messages of Android Ranging out-of-band, version 1, for a ranging tag.
 
-   Every call takes any octets and any record and gives one answer; none uses dynamic memory or keeps anything between calls.
-   The caller owes, for each pair of a pointer and a length: the pointer is not null and leads to that many octets, also where
-   the length is 0, and nobody else writes to them, or, for a lent buffer, reads them, until the call returns. */
+   Every call takes any octets, any record and any session and gives one answer. None uses dynamic memory or keeps anything
+   between calls, so that several threads may call at once, each with its own session and buffers.
+
+   The caller owes
+   - for each pair of a pointer and a length: the pointer is not null and leads to that many octets, also where the length is
+     0, and nobody else writes to them, or, for a lent buffer, reads them, until the call returns;
+   - for a session: the pointer is not null, is aligned as the struct is, and leads to a session that has been given a value,
+     which nobody else reads or writes until the call returns;
+   - that the memory behind one pointer of a call does not overlap that behind another. */
 #ifndef RAYDULCIMER_H
 #define RAYDULCIMER_H
 
@@ -41,8 +47,14 @@ extern "C" {
 #define RAYDULCIMER_WRONG_BLOCK 7         /* a block's ID has no bit in the set (always so from 16), or came before */
 #define RAYDULCIMER_NOT_ALLOWED 8         /* a field is not allowed */
 #define RAYDULCIMER_LEFT_OVER 9           /* octets are left over in version 1 */
+#define RAYDULCIMER_NOT_FOR_TAG 10        /* the message is sound, but not one that a tag is sent */
 #define RAYDULCIMER_BUFFER_TOO_SHORT 11   /* the lent buffer is shorter than what is to be written */
 #define RAYDULCIMER_NOT_VALID 12          /* a record to be written, or a profile, is not valid */
+
+/* The choice of explicit replies, messages 3 and 7. */
+#define RAYDULCIMER_REPLIES_NOT_SAID 0 /* which means on */
+#define RAYDULCIMER_REPLIES_ON 1
+#define RAYDULCIMER_REPLIES_OFF 2
 
 /* What a technology's block of message 1 says. Intervals and slots are in ms; addresses are octets in wire order. */
 struct raydulcimer_uwb_capability {
@@ -135,6 +147,63 @@ struct raydulcimer_written {
     size_t length;
 };
 
+/* What a tag can do: the set and the capability of a valid Capability Response, and a choice of explicit replies. */
+struct raydulcimer_profile {
+    uint16_t set;
+    uint8_t replies;
+    struct raydulcimer_capability capability;
+};
+
+/* Whether a technology is ranging, 0 no and anything else yes, and its settings in force, which are zero if it is not. */
+struct raydulcimer_uwb_state {
+    uint8_t ranging;
+    struct raydulcimer_uwb_configuration settings;
+};
+
+struct raydulcimer_nan_state {
+    uint8_t ranging;
+    struct raydulcimer_nan_configuration settings;
+};
+
+struct raydulcimer_rssi_state {
+    uint8_t ranging;
+    struct raydulcimer_rssi settings;
+};
+
+/* A tag's session, made by raydulcimer_start. It may be read between calls, and is altered by the calls alone; a copy is a
+   session of its own. The mark says, 0 no and anything else yes, that a Stop has ended UWB ranging since UWB's capabilities
+   were last given out. */
+struct raydulcimer_session {
+    struct raydulcimer_profile profile;
+    struct raydulcimer_uwb_state uwb;
+    struct raydulcimer_nan_state nan;
+    struct raydulcimer_rssi_state rssi;
+    uint8_t mark;
+};
+
+/* A refusal, length 0 and two empty sets; or RAYDULCIMER_OK, the reply's length, the technologies that the call set, and those
+   that it stopped. */
+struct raydulcimer_answer {
+    uint8_t refusal;
+    size_t length;
+    uint16_t set;
+    uint16_t stopped;
+};
+
+/* RAYDULCIMER_OK and a fresh session with the profile, or RAYDULCIMER_NOT_VALID and one with an empty profile. */
+struct raydulcimer_started {
+    struct raydulcimer_session session;
+    uint8_t refusal;
+};
+
+/* A block of a message: where it stands, counted from 0, its ID and its size, the two octets of ID and size counted. All zero
+   for none: no block stands at place 0. */
+struct raydulcimer_block {
+    size_t place;
+    uint8_t id;
+    uint8_t size;
+};
+
 /* Reads a message of any length. Accepts exactly the well-formed ones; any other gets the refusal that the order of checks
    names. The record read is always valid. */
 struct raydulcimer_reading raydulcimer_read(const uint8_t *message, size_t length);
@@ -143,6 +212,30 @@ struct raydulcimer_reading raydulcimer_read(const uint8_t *message, size_t lengt
    need. Reading it gives the record back. RAYDULCIMER_NOT_VALID is tested first, then RAYDULCIMER_BUFFER_TOO_SHORT; a
    refused call leaves the buffer as it was, and otherwise the octets after the written ones stay as they were. */
 struct raydulcimer_written raydulcimer_write(struct raydulcimer_record value, uint8_t *out, size_t length);
+
+/* The n-th block, counted from 0, of a Capability Response or a Configuration that raydulcimer_read accepts, blocks of unknown
+   technologies among them, in the order of the message. None past the last block, for other messages and for refused ones. */
+struct raydulcimer_block raydulcimer_block(const uint8_t *message, size_t length, size_t n);
+
+/* Starts a session for a tag with this profile, a valid record of a Capability Response (no technology at all is valid), and
+   one of the three choices of explicit replies. It ranges with nothing. RAYDULCIMER_NOT_VALID for any other record or choice. */
+struct raydulcimer_started raydulcimer_start(struct raydulcimer_record profile, uint8_t replies);
+
+/* Gives a session a message and a buffer for the reply. Tested in this order: the session's profile
+   (RAYDULCIMER_NOT_VALID), the message as raydulcimer_read does, that it is a Request, a Configuration or a Stop
+   (RAYDULCIMER_NOT_FOR_TAG), and that the reply fits the buffer (RAYDULCIMER_BUFFER_TOO_SHORT). A refused call leaves session and
+   buffer as they were; otherwise only the reply's own octets change in the buffer. With explicit replies off a Configuration
+   or a Stop is answered with length 0, and with its set all the same.
+
+   A Request is answered with the blocks that it names and the profile has. A Configuration sets each technology that it
+   names and the profile has, with settings within the profile, and, for UWB, with the mark not standing; what is not set goes
+   on as before. A Stop ends each technology that it names and that is ranging. CS can be set, but never ranges. */
+struct raydulcimer_answer raydulcimer_message(struct raydulcimer_session *session, const uint8_t *message, size_t length,
+                                              uint8_t *out, size_t room);
+
+/* Writes an advertisement, a Capability Response with the session's whole profile. RAYDULCIMER_NOT_VALID and
+   RAYDULCIMER_BUFFER_TOO_SHORT as above. */
+struct raydulcimer_answer raydulcimer_advertise(struct raydulcimer_session *session, uint8_t *out, size_t room);
 
 #ifdef __cplusplus
 }
