@@ -2,10 +2,15 @@
 use codec::Reading;
 use codec::Record;
 use codec::Written;
+use session::Answer;
+use session::Session;
+use session::Started;
 ghost use mathlib.Core.Path.{_≡_};
 ghost use Rattle.codec.specs.Message.{reading};
 ghost use Rattle.codec.specs.Records.{answer};
 ghost use Rattle.codec.specs.Writing.{Writes};
+ghost use Rattle.session.specs.Rules.{message, advertisement};
+ghost use Rattle.session.specs.Session.{sessionCall, Gives, profileOf, started};
 
 // Reads a message: its record, or the number of the refusal that the order of checks names.
 #[no_mangle]
@@ -22,4 +27,32 @@ pub extern "C" fn raydulcimer_write(value: Record, out: &mut [u8]) -> Written
     ensures { λ r. ⌜ Writes value (now (out .entry)) r (now (out .exit)) ⌝ }
 {
     codec::write(value, out)
+}
+
+// Starts a session with a profile and a choice of explicit replies.
+#[no_mangle]
+pub extern "C" fn raydulcimer_start(profile: Record, replies: u8) -> Started
+    ensures { λ r. ⌜ r ≡ started (profileOf profile replies) ⌝ }
+{
+    session::start(profile, replies)
+}
+
+// Gives a session a message.
+#[no_mangle]
+pub extern "C" fn raydulcimer_message(s: &mut Session, octets: &[u8], out: &mut [u8]) -> Answer
+    ensures { λ r. ⌜ Gives (now (s .entry)) (sessionCall (now (s .entry)) (message (now (octets .entry)) (now (out .entry)))) (now (out .entry)) (record { session = now (s .exit); answer = r }) (now (out .exit)) ⌝ }
+{
+    let t = session::message(*s, octets, out);
+    *s = t.session;
+    t.answer
+}
+
+// Has a session advertise its whole profile.
+#[no_mangle]
+pub extern "C" fn raydulcimer_advertise(s: &mut Session, out: &mut [u8]) -> Answer
+    ensures { λ r. ⌜ Gives (now (s .entry)) (sessionCall (now (s .entry)) (advertisement (now (out .entry)))) (now (out .entry)) (record { session = now (s .exit); answer = r }) (now (out .exit)) ⌝ }
+{
+    let t = session::advertise(*s, out);
+    *s = t.session;
+    t.answer
 }
