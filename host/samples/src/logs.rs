@@ -1,0 +1,84 @@
+//! The sample logs.
+use crate::bench::{to_tag, Bench};
+use crate::phone::*;
+use second::{CAPABILITY_REQUEST, CONFIGURATION_RESPONSE, KNOWN, RSSI, STOP, UWB, VERSION};
+
+/// A whole exchange by UWB, NAN and RSSI.
+pub fn exchange() -> Vec<u8> {
+    let mut bench = Bench::new();
+    bench.send(&request(KNOWN));
+    bench.send(&configuration(&[uwb(1, 9, 240), nan("theodolite"), rssi()]));
+    // 96 ms is below the tag's shortest interval: UWB goes on as before.
+    bench.send(&configuration(&[uwb(2, 5, 96), nan("theodolite"), rssi()]));
+    bench.send(&stop(1 << UWB));
+    // UWB is barred until its capabilities are given out again.
+    let again = configuration(&[uwb(3, 5, 120), nan("theodolite"), rssi()]);
+    bench.send(&again);
+    bench.send(&request(1 << UWB));
+    bench.send(&again);
+    bench.send(&stop(KNOWN));
+    bench.log
+}
+
+/// A phone that knows more than the tag.
+pub fn newer_phone() -> Vec<u8> {
+    let mut bench = Bench::new();
+    bench.send(&[3, CAPABILITY_REQUEST, 0x9F, 0x80, 0xE0, 0xE1, 0xE2]);
+    let unknown = vec![7, 5, 0xE0, 0xE1, 0xE2];
+    let longer_rssi = longer(rssi(), &[0xE3, 0xE4]);
+    bench.send(&configuration(&[
+        longer_rssi,
+        unknown,
+        nan("sextant"),
+        cs(2),
+        uwb(1, 9, 120),
+    ]));
+    // A tag of version 1 refuses this Stop; the phone repeats it in the tag's version.
+    bench.send(&[3, STOP, 0x8F, 0x00]);
+    bench.send(&[VERSION, STOP, 0x8F, 0x00]);
+    bench.log
+}
+
+/// Sound messages, refused ones, broken records and a cut-off end. A broken record holds a Stop, so that a tag that takes it
+/// ends what ranges.
+pub fn broken() -> Vec<u8> {
+    let mut bench = Bench::new();
+    let stop_all = stop(KNOWN);
+    let change_rssi = configuration(&[rssi()]);
+    let broken_stop = |place, octet| changed(&to_tag(&stop_all), place, octet);
+
+    bench.send(&request(1 << UWB | 1 << RSSI));
+    bench.send(&configuration(&[nan("level"), rssi()]));
+    // Direction.
+    bench.log.extend(broken_stop(0, 2));
+    // A left-over octet, a cut set, no octet at all.
+    bench.send(&[VERSION, STOP, 0x0F, 0x00, 0x00]);
+    bench.send(&stop_all[..3]);
+    bench.send(&[]);
+    // The octet that is always zero.
+    bench.log.extend(broken_stop(1, 1));
+    // Reserved ID, version, second set.
+    bench.send(&changed(&stop_all, 1, 4));
+    bench.send(&changed(&stop_all, 0, 2));
+    bench.send(&changed(&change_rssi, 4, 0x09));
+    // A length of 260.
+    bench.log.extend(broken_stop(3, 1));
+    // A block's size, a block's ID, periodic 2.
+    bench.send(&changed(&change_rssi, 7, 7));
+    bench.send(&changed(&change_rssi, 6, 2));
+    let mut not_allowed = configuration(&[nan("level")]);
+    *not_allowed.last_mut().expect("a block") = 2;
+    bench.send(&not_allowed);
+    // An octet after the message.
+    bench.log.extend(broken_stop(259, 1));
+    bench.send(&[VERSION, CONFIGURATION_RESPONSE, 0x0F, 0x00]);
+    bench.send(&stop(1 << UWB | 1 << RSSI));
+    bench.log.extend(&to_tag(&stop_all)[..100]);
+    bench.log
+}
+
+fn changed(octets: &[u8], place: usize, octet: u8) -> Vec<u8> {
+    let mut octets = octets.to_vec();
+    octets[place] = octet;
+    octets
+}
