@@ -12,6 +12,7 @@ pub mod MessageCases
 pub mod ValidCases
 pub mod Pieces
 pub mod Found
+pub mod Listed
 pub mod Exact
 pub mod ReadBack
 pub mod Converse

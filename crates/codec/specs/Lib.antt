@@ -11,4 +11,5 @@ pub mod NormalForm
 pub mod Writing
 pub mod Starred
 pub mod Places
+pub mod Listing
 pub mod Puts

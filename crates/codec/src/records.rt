@@ -66,6 +66,14 @@ pub struct TagReading {
     pub configuration: Configuration,
 }
 
+// A block of a message: its place, its ID and its size. All zero for none.
+#[repr(C)]
+pub struct Block {
+    pub place: usize,
+    pub id: u8,
+    pub size: u8,
+}
+
 // A refusal's number and 0 octets, or 0 and how many octets were written.
 #[repr(C)]
 pub struct Written {
