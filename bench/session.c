@@ -3,7 +3,8 @@
    session proved|second CALL          makes the call once, for callgrind to count its instructions
    session stack proved|second CALL    prints how many octets of stack the call used, beside its arguments and result
 
-   CALL is request, configuration, stop (with three technologies ranging), or advertisement. */
+   CALL is request, configuration, stop (with three technologies ranging), sixteen (a Capability Response with as many blocks,
+   which is walked before it is refused), or advertisement. */
 #include "measure.h"
 
 struct second_session {
@@ -76,7 +77,7 @@ int main(int argc, char **argv)
     const char *name = known ? argv[2 + stacked] : "";
     int advertisement = !strcmp(name, "advertisement");
     if (!known || !(advertisement || choose(name))) {
-        fprintf(stderr, "usage: session [stack] proved|second request|configuration|stop|advertisement\n");
+        fprintf(stderr, "usage: session [stack] proved|second request|configuration|stop|sixteen|advertisement\n");
         return 2;
     }
     begin(name);
@@ -92,5 +93,5 @@ int main(int argc, char **argv)
     } else {
         call();
     }
-    return said.refusal != 0;
+    return said.refusal != (strcmp(name, "sixteen") ? RAYDULCIMER_OK : RAYDULCIMER_NOT_FOR_TAG);
 }

@@ -1,10 +1,10 @@
 // CS, channel sounding: its two blocks.
 use crate::octets::address_at;
 use crate::octets::address_length;
+use crate::octets::all_zero;
 use crate::octets::inside;
 use crate::octets::put;
 use crate::octets::put_address;
-use crate::octets::zero_from;
 use crate::refusal::NOT_ALLOWED;
 ghost use mathlib.Core.Path.{_≡_};
 ghost use mathlib.Core.Bool.{cond};
@@ -70,7 +70,7 @@ pub(crate) fn valid_capability(present: bool, v: CsCapability) -> bool
         return true;
     }
     let address = v.address;
-    (v.security_types == 0) & zero_from(&address, 0)
+    (v.security_types == 0) & all_zero(&address)
 }
 
 pub(crate) fn valid_configuration(present: bool, v: CsConfiguration) -> bool
@@ -80,7 +80,7 @@ pub(crate) fn valid_configuration(present: bool, v: CsConfiguration) -> bool
         return inside(0, 4, v.security_level);
     }
     let address = v.address;
-    (v.security_level == 0) & zero_from(&address, 0)
+    (v.security_level == 0) & all_zero(&address)
 }
 
 // How many octets either block takes: both are an octet and an address.

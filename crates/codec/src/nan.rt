@@ -1,4 +1,5 @@
 // Wi-Fi NAN RTT: its two blocks.
+use crate::octets::all_zero;
 use crate::octets::inside;
 use crate::octets::name_at;
 use crate::octets::name_length;
@@ -132,7 +133,7 @@ pub(crate) fn valid_configuration(present: bool, v: NanConfiguration) -> bool
 {
     let name = v.name;
     if !present {
-        return (v.name_length == 0) & (zero_from(&name, 0) & ((v.role == 0) & (v.periodic == 0)));
+        return (v.name_length == 0) & (all_zero(&name) & ((v.role == 0) & (v.periodic == 0)));
     }
     if !inside(1, 64, v.name_length) {
         return false;

@@ -88,6 +88,19 @@ pub(crate) fn name_at(s: &[u8], at: usize, n: usize) -> [u8; 64]
     out
 }
 
+// Whether all octets are zero. It looks at every one, so that the machine code can take many at a time.
+pub(crate) fn all_zero(s: &[u8]) -> bool
+    ensures { λ r. ⌜ r ≡ allZero (now (s .entry)) ⌝ }
+{
+    let mut all = true;
+    let mut i = 0;
+    while i < s.len() {
+        all = all & (s[i] == 0);
+        i += 1;
+    }
+    all
+}
+
 // Whether all octets from a place on are zero.
 pub(crate) fn zero_from(s: &[u8], from: usize) -> bool
     ensures { λ r. ⌜ r ≡ allZero (drop from (now (s .entry))) ⌝ }

@@ -1,9 +1,9 @@
 // RSSI: its block, the same in both messages.
 use crate::octets::address_at;
 use crate::octets::address_length;
+use crate::octets::all_zero;
 use crate::octets::put;
 use crate::octets::put_address;
-use crate::octets::zero_from;
 ghost use mathlib.Core.Path.{_≡_};
 ghost use mathlib.Core.Bool.{cond};
 ghost use Prim.Native.Nat.{_+_, _≤_};
@@ -36,7 +36,7 @@ pub(crate) fn valid_block(present: bool, v: Rssi) -> bool
         return true;
     }
     let address = v.address;
-    zero_from(&address, 0)
+    all_zero(&address)
 }
 
 // How many octets the block takes.

@@ -1,4 +1,5 @@
 // UWB: its two blocks. Channel, preamble index and config ID are kinds of their own, and so are sets of them.
+use crate::octets::all_zero;
 use crate::octets::inside;
 use crate::octets::key_at;
 use crate::octets::key_length;
@@ -245,10 +246,16 @@ pub(crate) fn put_capability(present: bool, v: UwbCapability, out: &mut [u8], at
 fn zero_pair(pair: &[u8; 2]) -> bool
     ensures { λ r. ⌜ r ≡ allZero (now (pair .entry)) ⌝ }
 {
-    zero_from(pair, 0)
+    all_zero(pair)
 }
 
-fn zero_key(key: &[u8; 32], from: usize) -> bool
+fn zero_key(key: &[u8; 32]) -> bool
+    ensures { λ r. ⌜ r ≡ allZero (now (key .entry)) ⌝ }
+{
+    all_zero(key)
+}
+
+fn zero_key_from(key: &[u8; 32], from: usize) -> bool
     ensures { λ r. ⌜ r ≡ allZero (drop from (now (key .entry))) ⌝ }
 {
     zero_from(key, from)
@@ -264,7 +271,7 @@ fn zero_configuration(v: UwbConfiguration) -> bool
         & ((v.config_id.0 == 0) & ((v.channel.0 == 0) & (v.preamble_index.0 == 0)));
     let timing = (v.interval == 0) & ((v.slot == 0) & (v.key_length == 0));
     let last = zero_pair(&country) & ((v.role == 0) & (v.mode == 0));
-    zero_pair(&address) & (ids & (timing & (zero_key(&key, 0) & last)))
+    zero_pair(&address) & (ids & (timing & (zero_key(&key) & last)))
 }
 
 pub(crate) fn valid_configuration(present: bool, v: UwbConfiguration) -> bool
@@ -279,7 +286,7 @@ pub(crate) fn valid_configuration(present: bool, v: UwbConfiguration) -> bool
     let key = v.key;
     let country = v.country;
     let k = v.key_length as usize;
-    let last = inside(1, 2, v.role) & (inside(1, 2, v.mode) & zero_key(&key, k));
+    let last = inside(1, 2, v.role) & (inside(1, 2, v.mode) & zero_key_from(&key, k));
     allowed_interval(v.interval) & (inside(1, 2, v.slot) & (letters(country) & last))
 }
 

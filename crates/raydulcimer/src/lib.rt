@@ -1,4 +1,5 @@
 // The library's calls for C and Rust.
+use codec::Block;
 use codec::Reading;
 use codec::Record;
 use codec::Written;
@@ -6,6 +7,7 @@ use session::Answer;
 use session::Session;
 use session::Started;
 ghost use mathlib.Core.Path.{_≡_};
+ghost use Rattle.codec.specs.Listing.{nthBlock};
 ghost use Rattle.codec.specs.Message.{reading};
 ghost use Rattle.codec.specs.Records.{answer};
 ghost use Rattle.codec.specs.Writing.{Writes};
@@ -27,6 +29,14 @@ pub extern "C" fn raydulcimer_write(value: Record, out: &mut [u8]) -> Written
     ensures { λ r. ⌜ Writes value (now (out .entry)) r (now (out .exit)) ⌝ }
 {
     codec::write(value, out)
+}
+
+// The n-th block of a message, from 0, for diagnosis.
+#[no_mangle]
+pub extern "C" fn raydulcimer_block(message: &[u8], n: usize) -> Block
+    ensures { λ r. ⌜ r ≡ nthBlock (now (message .entry)) n ⌝ }
+{
+    codec::block(message, n)
 }
 
 // Starts a session with a profile and a choice of explicit replies.

@@ -4,7 +4,7 @@ use native.Mathlib.Omega.{arith}
 use mathlib.Core.Path.{_≡_, refl, sym, ap, subst, fun-ext, _∙_}
 use mathlib.Core.List.{List}
 use mathlib.Core.Option.{none, some}
-use mathlib.Core.Bool.{Bool, true, false, cond, not, _&&_, _||_, and-false, true≢false}
+use mathlib.Core.Bool.{Bool, true, false, cond, not, _&&_, _||_, and-true as with-true, and-false, true≢false}
 use lib.Dec.{eqb, ltb, leb}
 use lib.ListN.{length}
 use borrow.Author.Tests.{lt-ltb, le-leb, ne-eqb}
@@ -17,6 +17,7 @@ use Rattle.codec.specs.Message.{reading}
 use Rattle.codec.specs.Valid.{validFields, validColumn, valid}
 use Rattle.codec.specs.NormalForm.{normal}
 use Rattle.codec.specs.Writing.{writing, Writes}
+use Rattle.codec.specs.declared.records.Configuration.{Configuration}
 use Rattle.codec.specs.declared.records.Record.{Record}
 use Rattle.codec.specs.declared.records.TagReading.{TagReading}
 use Rattle.codec.specs.declared.records.SetMessage.{SetMessage}
@@ -26,10 +27,10 @@ use Rattle.codec.proofs.ValidCases.{response-valid, part-valid, set-valid}
 use Rattle.session.specs.declared.state.Profile.{Profile}
 use Rattle.session.specs.declared.state.Session.{Session}
 use Rattle.session.specs.declared.state.Step.{Step}
-use Rattle.session.specs.Technology.{Technology, uwb, cs, nan, rssi, names, setOf}
+use Rattle.session.specs.Technology.{Technology, uwb, cs, nan, rssi, among, names, setOf}
 use Rattle.session.specs.Rules.{validProfile, Call, message, advertisement, Kind, request, configuration, stop, other, kindOf, octetsOf, replied, shows, capabilityReply, Served, conclude, giveOut, configure, endedBy, halt, serve, call}
 use Rattle.session.specs.Session.{yes, rangingIn, sessionKeeps, sessionCall, Gives, profileOf}
-use Rattle.session.specs.Replies.{delivery, Delivers, givenOut}
+use Rattle.session.specs.Replies.{delivery, Delivers, settle, givenOut}
 use Rattle.session.proofs.SetLaws.{set-below, names-set}
 
 abbrev pub refusal : Session → ℕ → Step
@@ -81,17 +82,25 @@ module _ (p : Profile) (wanted : Technology → Bool) (v : validProfile p ≡ tr
 -- ---- and the call goes as the writer says
 
 module _ (s : Session) (v : Served Session) {b e : List ℕ} {w : Written} (d : Delivers (v .reply) b w e) where
-  pub finished : w .refusal ≡ 0 → Gives s (conclude b v) b (record { session = v .state; answer = record { refusal = 0; length = w .length; set = v .set; stopped = v .stopped } }) e
+  pub settled : Gives s (conclude b v) b (settle s v w) e
   unfolding conclude delivery replied
-  finished z = by-bool (leb (length (octetsOf (v .reply))) (length b))
-      (λ t. record { session = rw t; answer = rw (d .answers, t); buffer = rw (d .leaves, t) })
-      (λ f. let x : _≡_ {A = ℕ} 11 0 = (rw f at (sym (ap (λ (y : Written). y .refusal) (d .answers)))) ∙ z in absurd (omega arith))
+  settled = by-bool (leb (length (octetsOf (v .reply))) (length b))
+      (λ t. record { session = rw (d .answers, t); answer = rw (d .answers, t); buffer = rw (d .leaves, t) })
+      (λ f. record { session = rw (d .answers, f); answer = rw (d .answers, f); buffer = rw (d .leaves, f) })
 
-  pub unfinished : (w .refusal ≡ 0 → ⊥) → Gives s (conclude b v) b (refusal s (w .refusal)) e
-  unfolding conclude delivery
-  unfinished z = by-bool (leb (length (octetsOf (v .reply))) (length b))
-      (λ t. absurd (z (rw t at (ap (λ (y : Written). y .refusal) (d .answers)))))
-      (λ f. record { session = rw f; answer = rw (d .answers, f); buffer = rw (d .leaves, f) })
+pub none-either : (z : Bool) → _≡_ {A = ℕ} (cond z 0 0) 0
+none-either true = refl
+none-either false = refl
+
+-- what a call sets or stops, it does where its reply is delivered
+module _ (f : Technology → Bool) (s : Session) where
+  pub put-if : (c : Configuration) (z : Bool) → sessionKeeps .put (among (f uwb && z) false (f nan && z) (f rssi && z)) c s ≡ cond z (sessionKeeps .put f c s) s
+  put-if c true = rw (with-true (f uwb), with-true (f nan), with-true (f rssi))
+  put-if c false = rw (and-false (f uwb), and-false (f nan), and-false (f rssi))
+
+  pub stop-if : (z : Bool) → sessionKeeps .stop (among (f uwb && z) false (f nan && z) (f rssi && z)) s ≡ cond z (sessionKeeps .stop f s) s
+  stop-if true = rw (with-true (f uwb), with-true (f nan), with-true (f rssi))
+  stop-if false = rw (and-false (f uwb), and-false (f nan), and-false (f rssi))
 
 -- a Capability Response that is delivered takes the mark where it shows UWB
 pub cleared : (s : Session) (wanted : Technology → Bool) (w : Written) → _≡_ {A = Step} (record {

@@ -13,7 +13,7 @@ use Rattle.codec.specs.declared.records.Written.{Written}
 use Rattle.session.specs.declared.state.Session.{Session}
 use Rattle.session.specs.declared.state.Step.{Step}
 use Rattle.session.specs.Technology.{Technology}
-use Rattle.session.specs.Rules.{octetsOf, shows}
+use Rattle.session.specs.Rules.{octetsOf, shows, Served}
 use Rattle.session.specs.Session.{sessionKeeps}
 
 -- the octets of a reply into a buffer of n octets
@@ -24,7 +24,19 @@ pub record Delivers (r : Option Record) (b : List ℕ) (w : Written) (e : List �
   pub answers : w ≡ written (delivery r (length b))
   pub leaves : e ≡ buffer (delivery r (length b)) b
 
--- the session and the answer once a Capability Response is delivered, or refused
+-- the session and the answer of a call once its reply is delivered, or refused
+abbrev pub settle : Session → Served Session → Written → Step
+settle s v w = record {
+  session = cond (eqb (w .refusal) 0) (v .state) s;
+  answer = record {
+    refusal = w .refusal;
+    length = w .length;
+    set = cond (eqb (w .refusal) 0) (v .set) 0;
+    stopped = cond (eqb (w .refusal) 0) (v .stopped) 0;
+  };
+}
+
+-- the same where the reply is a Capability Response, which sets and stops nothing
 abbrev pub givenOut : Session → (Technology → Bool) → Written → Step
 givenOut s wanted w = record {
   session = cond (eqb (w .refusal) 0) (sessionKeeps .give (shows (s .profile) wanted) s) s;

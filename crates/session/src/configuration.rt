@@ -1,9 +1,9 @@
 // Configurations: which technologies one sets, and the session with them set.
 use crate::choose;
 use crate::replies::deliver;
-use crate::replies::refused;
 use crate::sets::both_have;
 use crate::sets::set_of;
+use crate::sets::worth;
 use crate::state::Answer;
 use crate::state::NanState;
 use crate::state::RssiState;
@@ -95,15 +95,13 @@ pub(crate) fn configure(s: Session, set: u16, c: Configuration, out: &mut [u8]) 
         those,
         out,
     );
-    if w.refusal != 0 {
-        return refused(s, w.refusal);
-    }
+    let done = w.refusal == 0;
     Step {
-        session: configured(s, c, uwb, nan, rssi),
+        session: configured(s, c, uwb & done, nan & done, rssi & done),
         answer: Answer {
-            refusal: 0,
+            refusal: w.refusal,
             length: w.length,
-            set: those,
+            set: worth(done, those),
             stopped: 0,
         },
     }

@@ -4,7 +4,8 @@ ghost use mathlib.Core.Bool.{cond, _&&_};
 ghost use Prim.Native.Nat.{_≤_, _+_};
 ghost use Rattle.codec.specs.Technology.{bit};
 
-fn worth(on: bool, w: u16) -> u16
+// A set, or none.
+pub(crate) fn worth(on: bool, w: u16) -> u16
     ensures { λ r. ⌜ (r ≡ cond on w 0) × (r ≤ w) ⌝ }
 {
     if on { w } else { 0 }

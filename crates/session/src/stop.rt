@@ -1,8 +1,8 @@
 // Stops: which technologies one ends, and the session without them.
 use crate::choose;
 use crate::replies::deliver;
-use crate::replies::refused;
 use crate::sets::set_of;
+use crate::sets::worth;
 use crate::state::Answer;
 use crate::state::Session;
 use crate::state::Step;
@@ -43,16 +43,14 @@ pub(crate) fn halt(s: Session, set: u16, out: &mut [u8]) -> Step
     let rssi = has(set, 3) & (s.rssi.ranging != 0);
     let those = set_of(uwb, false, nan, rssi);
     let w = deliver(s.profile.replies, SetMessage::StopResponse, those, out);
-    if w.refusal != 0 {
-        return refused(s, w.refusal);
-    }
+    let done = w.refusal == 0;
     Step {
-        session: halted(s, uwb, nan, rssi),
+        session: halted(s, uwb & done, nan & done, rssi & done),
         answer: Answer {
-            refusal: 0,
+            refusal: w.refusal,
             length: w.length,
             set: 0,
-            stopped: those,
+            stopped: worth(done, those),
         },
     }
 }

@@ -27,8 +27,8 @@ inside-requires c κs = search needs
 inside-requires-2 : tie.Need-inside-requires-2
 inside-requires-2 c κs = search needs
 
-zero-key-requires : tie.Need-zero-key-requires
-zero-key-requires c κs = search needs
+zero-key-from-requires : tie.Need-zero-key-from-requires
+zero-key-from-requires c κs = search needs
 
 allowed-interval-requires : tie.Need-allowed-interval-requires
 allowed-interval-requires c κs = search needs
@@ -53,7 +53,7 @@ valid-configuration-spec =
     cast-k
     inside-requires
     inside-requires-2
-    zero-key-requires
+    zero-key-from-requires
     allowed-interval-requires
     inside-requires-3
     letters-requires

@@ -1,13 +1,25 @@
+use lib.Dec.{eqb}
+use mathlib.Core.Path.{_∙_}
 use Rattle.codec.specs.declared.records.SetMessage.{SetMessage}
 use Rattle.session.specs.declared.state.Session.{Session}
 use Rattle.session.specs.Technology.{among, setOf}
 use Rattle.session.specs.Rules.{explicitReply, setBy, Served, configure}
 use Rattle.session.specs.Session.{sessionKeeps}
 use Rattle.session.proofs.SetLaws.{set-below}
-use Rattle.session.proofs.Steps.{finished, unfinished}
+use Rattle.session.proofs.Steps.{settled, put-if, none-either}
 use borrow.Author.Needs.{needs}
 use Rattle.session.proofs.configuration.configure.Statement.{statement}
 use Rattle.session.proofs.configuration.configure.Tie as tie
+use Rattle.session.proofs.configuration.configure.Reads as reads
+use Rattle.session.proofs.configuration.configure.Lts as lts
+use Rattle.session.proofs.configuration.configured.Reads as configured-reads
+use Rattle.session.proofs.configuration.sets_cs.Reads as sets-cs-reads
+use Rattle.session.proofs.configuration.sets_nan.Reads as sets-nan-reads
+use Rattle.session.proofs.configuration.sets_rssi.Reads as sets-rssi-reads
+use Rattle.session.proofs.configuration.sets_uwb.Reads as sets-uwb-reads
+use Rattle.session.proofs.replies.deliver.Reads as deliver-reads
+use Rattle.session.proofs.sets.set_of.Reads as set-of-reads
+use Rattle.session.proofs.sets.worth.Reads as worth-reads
 
 -- what the call gives where its reply fits
 abbrev served : tie.Start → Served Session
@@ -39,28 +51,23 @@ set-of-requires c κs = search needs
 deliver-requires : tie.Need-deliver-requires
 deliver-requires c κs = rw (c .before .set-of .ensures) (set-below (among (c .before .before .before .before .before .sets-uwb .result) (c .before .before .before .before .sets-cs .result) (c .before .before .before .sets-nan .result) (c .before .before .sets-rssi .result)))
 
-refused-requires : tie.Need-refused-requires
-refused-requires c κs = search needs
+configured-requires : tie.Need-configured-requires
+configured-requires c κs = search needs
+
+worth-requires : tie.Need-worth-requires
+worth-requires c κs = search needs
 
 same-length : tie.Need-same-length
 same-length c = search needs
 
 returns : tie.Need-returns
 unfolding configure
-returns c = let k = rw (c .before .before .before .before .before .before .before .before .before .before .before .sets-uwb .ensures, c .before .before .before .before .before .before .before .before .before .before .sets-cs .ensures, c .before .before .before .before .before .before .before .before .before .sets-nan .ensures, c .before .before .before .before .before .before .before .before .sets-rssi .ensures) at (c .before .before .before .before .before .before .before .set-of .ensures) in
-    rw (c .refused .ensures) (unfinished (c .before .before .before .before .before .before .before .before .before .before .before .before .before .args .s) (served (c .before .before .before .before .before .before .before .before .before .before .before .before .before)) (rw k at (c .before .before .before .before .before .deliver .ensures)) (c .before .if1 .taken))
-
-configured-requires : tie.Need-configured-requires
-configured-requires c κs = search needs
-
-same-length-2 : tie.Need-same-length-2
-same-length-2 c = search needs
-
-returns-2 : tie.Need-returns-2
-unfolding configure
-returns-2 c = let k = rw (c .before .before .before .before .before .before .before .before .before .before .before .sets-uwb .ensures, c .before .before .before .before .before .before .before .before .before .before .sets-cs .ensures, c .before .before .before .before .before .before .before .before .before .sets-nan .ensures, c .before .before .before .before .before .before .before .before .sets-rssi .ensures) at (c .before .before .before .before .before .before .before .set-of .ensures) in
-    let q = rw (c .before .before .before .before .before .before .before .before .before .before .before .sets-uwb .ensures, c .before .before .before .before .before .before .before .before .before .sets-nan .ensures, c .before .before .before .before .before .before .before .before .sets-rssi .ensures) at (c .configured .ensures) in
-    rw (k, q) (finished (c .before .before .before .before .before .before .before .before .before .before .before .before .before .args .s) (served (c .before .before .before .before .before .before .before .before .before .before .before .before .before)) (rw k at (c .before .before .before .before .before .deliver .ensures)) (c .before .if1 .left))
+returns c = let s = c .before .before .before .before .before .before .before .before .before .before .before .before .before .args .s in
+    let f = setBy sessionKeeps (s .profile) (c .before .before .before .before .before .before .before .before .before .before .before .before .before .args .set) (c .before .before .before .before .before .before .before .before .before .before .before .before .before .args .c) s in
+    let z = eqb (c .before .before .before .before .before .deliver .result .refusal) 0 in
+    let k = rw (c .before .before .before .before .before .before .before .before .before .before .before .sets-uwb .ensures, c .before .before .before .before .before .before .before .before .before .before .sets-cs .ensures, c .before .before .before .before .before .before .before .before .before .sets-nan .ensures, c .before .before .before .before .before .before .before .before .sets-rssi .ensures) at (c .before .before .before .before .before .before .before .set-of .ensures) in
+    let q = rw (c .before .before .before .before .before .before .before .before .before .before .before .sets-uwb .ensures, c .before .before .before .before .before .before .before .before .before .sets-nan .ensures, c .before .before .before .before .before .before .before .before .sets-rssi .ensures) at (c .before .configured .ensures) ∙ put-if f s (c .before .before .before .before .before .before .before .before .before .before .before .before .before .args .c) z in
+    rw (c .worth .ensures .0, k, q) (rw (none-either z) at (settled s (served (c .before .before .before .before .before .before .before .before .before .before .before .before .before)) (rw k at (c .before .before .before .before .before .deliver .ensures))))
 
 pub configure-spec : {M : Type 1} → statement M
 configure-spec =
@@ -72,9 +79,7 @@ configure-spec =
     sets-rssi-requires
     set-of-requires
     deliver-requires
-    refused-requires
-    same-length
-    returns
     configured-requires
-    same-length-2
-    returns-2)
+    worth-requires
+    same-length
+    returns)

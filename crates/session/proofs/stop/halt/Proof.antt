@@ -1,3 +1,4 @@
+use lib.Dec.{eqb}
 use mathlib.Core.Path.{_∙_}
 use Rattle.codec.specs.declared.records.SetMessage.{SetMessage}
 use Rattle.session.specs.declared.state.Session.{Session}
@@ -5,10 +6,17 @@ use Rattle.session.specs.Technology.{setOf}
 use Rattle.session.specs.Rules.{explicitReply, endedBy, Served, halt}
 use Rattle.session.specs.Session.{rangingIn, sessionKeeps}
 use Rattle.session.proofs.SetLaws.{set-below}
-use Rattle.session.proofs.Steps.{ended-set, finished, unfinished}
+use Rattle.session.proofs.Steps.{ended-set, settled, stop-if, none-either}
 use borrow.Author.Needs.{needs}
 use Rattle.session.proofs.stop.halt.Statement.{statement}
 use Rattle.session.proofs.stop.halt.Tie as tie
+use Rattle.session.proofs.stop.halt.Reads as reads
+use Rattle.session.proofs.stop.halt.Lts as lts
+use Rattle.codec.proofs.has.Reads as has-reads
+use Rattle.session.proofs.replies.deliver.Reads as deliver-reads
+use Rattle.session.proofs.sets.set_of.Reads as set-of-reads
+use Rattle.session.proofs.sets.worth.Reads as worth-reads
+use Rattle.session.proofs.stop.halted.Reads as halted-reads
 
 -- what the call gives where its reply fits
 abbrev served : tie.Start → Served Session
@@ -37,28 +45,23 @@ set-of-requires c κs = search needs
 deliver-requires : tie.Need-deliver-requires
 deliver-requires c κs = rw (c .before .set-of .ensures, c .before .before .before .before .before .before .before .has .ensures, c .before .before .before .before .before .has2 .ensures, c .before .before .before .has3 .ensures, ended-set (c .before .before .before .before .before .before .before .before .before .args .s .profile) (c .before .before .before .before .before .before .before .before .before .args .set) (c .before .before .before .before .before .before .before .before .before .args .s)) (set-below (endedBy sessionKeeps (c .before .before .before .before .before .before .before .before .before .args .s .profile) (c .before .before .before .before .before .before .before .before .before .args .set) (c .before .before .before .before .before .before .before .before .before .args .s)))
 
-refused-requires : tie.Need-refused-requires
-refused-requires c κs = search needs
+halted-requires : tie.Need-halted-requires
+halted-requires c κs = search needs
+
+worth-requires : tie.Need-worth-requires
+worth-requires c κs = search needs
 
 same-length : tie.Need-same-length
 same-length c = search needs
 
 returns : tie.Need-returns
-unfolding halt
-returns c = let k = rw (c .before .before .before .before .before .before .before .before .before .before .before .before .before .has .ensures, c .before .before .before .before .before .before .before .before .before .before .before .has2 .ensures, c .before .before .before .before .before .before .before .before .before .has3 .ensures) at (c .before .before .before .before .before .before .before .set-of .ensures) ∙ ended-set (c .before .before .before .before .before .before .before .before .before .before .before .before .before .before .before .args .s .profile) (c .before .before .before .before .before .before .before .before .before .before .before .before .before .before .before .args .set) (c .before .before .before .before .before .before .before .before .before .before .before .before .before .before .before .args .s) in
-    rw (c .refused .ensures) (unfinished (c .before .before .before .before .before .before .before .before .before .before .before .before .before .before .before .args .s) (served (c .before .before .before .before .before .before .before .before .before .before .before .before .before .before .before)) (rw k at (c .before .before .before .before .before .deliver .ensures)) (c .before .if1 .taken))
-
-halted-requires : tie.Need-halted-requires
-halted-requires c κs = search needs
-
-same-length-2 : tie.Need-same-length-2
-same-length-2 c = search needs
-
-returns-2 : tie.Need-returns-2
 unfolding halt endedBy rangingIn
-returns-2 c = let k = rw (c .before .before .before .before .before .before .before .before .before .before .before .before .before .has .ensures, c .before .before .before .before .before .before .before .before .before .before .before .has2 .ensures, c .before .before .before .before .before .before .before .before .before .has3 .ensures) at (c .before .before .before .before .before .before .before .set-of .ensures) ∙ ended-set (c .before .before .before .before .before .before .before .before .before .before .before .before .before .before .before .args .s .profile) (c .before .before .before .before .before .before .before .before .before .before .before .before .before .before .before .args .set) (c .before .before .before .before .before .before .before .before .before .before .before .before .before .before .before .args .s) in
-    let q = rw (c .before .before .before .before .before .before .before .before .before .before .before .before .before .has .ensures, c .before .before .before .before .before .before .before .before .before .before .before .has2 .ensures, c .before .before .before .before .before .before .before .before .before .has3 .ensures) at (c .halted .ensures) in
-    rw (k, q) (finished (c .before .before .before .before .before .before .before .before .before .before .before .before .before .before .before .args .s) (served (c .before .before .before .before .before .before .before .before .before .before .before .before .before .before .before)) (rw k at (c .before .before .before .before .before .deliver .ensures)) (c .before .if1 .left))
+returns c = let s = c .before .before .before .before .before .before .before .before .before .before .before .before .before .before .before .args .s in
+    let f = endedBy sessionKeeps (s .profile) (c .before .before .before .before .before .before .before .before .before .before .before .before .before .before .before .args .set) s in
+    let z = eqb (c .before .before .before .before .before .deliver .result .refusal) 0 in
+    let k = rw (c .before .before .before .before .before .before .before .before .before .before .before .before .before .has .ensures, c .before .before .before .before .before .before .before .before .before .before .before .has2 .ensures, c .before .before .before .before .before .before .before .before .before .has3 .ensures) at (c .before .before .before .before .before .before .before .set-of .ensures) ∙ ended-set (s .profile) (c .before .before .before .before .before .before .before .before .before .before .before .before .before .before .before .args .set) s in
+    let q = rw (c .before .before .before .before .before .before .before .before .before .before .before .before .before .has .ensures, c .before .before .before .before .before .before .before .before .before .before .before .has2 .ensures, c .before .before .before .before .before .before .before .before .before .has3 .ensures) at (c .before .halted .ensures) ∙ stop-if f s z in
+    rw (c .worth .ensures .0, k, q) (rw (none-either z) at (settled s (served (c .before .before .before .before .before .before .before .before .before .before .before .before .before .before .before)) (rw k at (c .before .before .before .before .before .deliver .ensures))))
 
 pub halt-spec : {M : Type 1} → statement M
 halt-spec =
@@ -69,9 +72,7 @@ halt-spec =
     has-requires-3
     set-of-requires
     deliver-requires
-    refused-requires
-    same-length
-    returns
     halted-requires
-    same-length-2
-    returns-2)
+    worth-requires
+    same-length
+    returns)
