@@ -1,11 +1,12 @@
 //! Safe bindings to Raydulcimer, the proved software of a ranging tag: the messages of Android Ranging out-of-band,
 //! version 1.
 //!
-//! [`read`] takes any octets and [`write`] any record and any buffer; each gives one answer and neither panics. What they
-//! promise is proved of the library that they call; these bindings only carry it over.
+//! [`read`] takes any octets, [`write()`] any record and any buffer, and a [`Session`] any messages, one after the other; each
+//! call gives one answer and none panics. What they promise is proved of the library that they call; these bindings only
+//! carry it over.
 //!
 //! ```
-//! use raydulcimer::{read, write, Refusal, MESSAGE_LIMIT};
+//! use raydulcimer::{read, write, Refusal, Replies, Session, MESSAGE_LIMIT};
 //!
 //! let record = read(&[1, 0, 9, 0]).unwrap();
 //! assert_eq!((record.id, record.set), (0, 9));
@@ -15,14 +16,25 @@
 //! assert_eq!(buffer[..length], [1, 0, 9, 0]);
 //!
 //! assert_eq!(read(&[1, 0, 9]), Err(Refusal::EndsEarly));
+//!
+//! let profile = read(&[1, 1, 8, 0, 3, 8, 1, 2, 3, 4, 5, 6]).unwrap();
+//! let mut session = Session::start(&profile, Replies::NotSaid).unwrap();
+//! let answer = session.message(&[1, 2, 8, 0, 8, 0, 3, 8, 6, 5, 4, 3, 2, 1], &mut buffer).unwrap();
+//! assert_eq!(buffer[..answer.length], [1, 3, 8, 0]);
+//! assert_eq!(session.rssi().unwrap().address, [6, 5, 4, 3, 2, 1]);
 //! ```
 #![deny(missing_docs)]
 
+mod block;
+pub mod raw;
 mod record;
 mod refusal;
+mod session;
 
+pub use block::{block, blocks, Block};
 pub use record::*;
 pub use refusal::Refusal;
+pub use session::{Answer, Replies, Session};
 
 /// A message has at most so many octets: a buffer of this length has room for every one.
 pub const MESSAGE_LIMIT: usize = 256;

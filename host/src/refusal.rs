@@ -22,6 +22,8 @@ pub enum Refusal {
     NotAllowed = 8,
     /// Octets are left over in version 1.
     LeftOver = 9,
+    /// The message is sound, but not one that a tag is sent.
+    NotForTag = 10,
     /// The lent buffer is shorter than what is to be written.
     BufferTooShort = 11,
     /// A record to be written, or a profile, is not valid.
@@ -29,7 +31,7 @@ pub enum Refusal {
 }
 
 impl Refusal {
-    const ALL: [Refusal; 11] = [
+    const ALL: [Refusal; 12] = [
         Refusal::TooLong,
         Refusal::EndsEarly,
         Refusal::ReservedId,
@@ -39,6 +41,7 @@ impl Refusal {
         Refusal::WrongBlock,
         Refusal::NotAllowed,
         Refusal::LeftOver,
+        Refusal::NotForTag,
         Refusal::BufferTooShort,
         Refusal::NotValid,
     ];
@@ -60,6 +63,7 @@ impl Refusal {
             Refusal::WrongBlock => "a block's ID has no bit in the set (always so from 16), or came before",
             Refusal::NotAllowed => "a field is not allowed",
             Refusal::LeftOver => "octets are left over in version 1",
+            Refusal::NotForTag => "the message is sound, but not one that a tag is sent",
             Refusal::BufferTooShort => "the lent buffer is shorter than what is to be written",
             Refusal::NotValid => "a record to be written, or a profile, is not valid",
         }

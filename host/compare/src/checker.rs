@@ -1,5 +1,5 @@
 //! Asks both implementations and compares what they answer.
-use crate::convert::{of_library, to_library};
+use crate::convert::{of_block, of_library, to_library};
 use second::Record;
 
 /// After so many differences the rest is only counted.
@@ -8,6 +8,7 @@ const SHOWN: u64 = 20;
 pub struct Checker {
     pub messages: u64,
     pub accepted: u64,
+    pub blocks: u64,
     pub writes: u64,
     pub differences: u64,
 }
@@ -30,6 +31,7 @@ impl Checker {
         Checker {
             messages: 0,
             accepted: 0,
+            blocks: 0,
             writes: 0,
             differences: 0,
         }
@@ -42,9 +44,10 @@ impl Checker {
         }
     }
 
-    /// Reads a message with both; a record that both read is written by both too. Returns the record.
+    /// Reads a message and lists its blocks with both; a record that both read is written by both too. Returns the record.
     pub fn message(&mut self, message: &[u8]) -> Option<Record> {
         self.messages += 1;
+        self.list_blocks(message);
         let proved = raydulcimer::read(message)
             .map(|record| of_library(&record))
             .map_err(|refusal| refusal.number());
@@ -57,6 +60,19 @@ impl Checker {
         self.accepted += 1;
         let _ = self.write(&record, raydulcimer::MESSAGE_LIMIT);
         Some(record)
+    }
+
+    /// Lists a message's blocks with both; a refused message has none.
+    fn list_blocks(&mut self, message: &[u8]) {
+        let mut count = 0;
+        for plain in second::blocks(message).map(Some).chain([None]) {
+            let proved = raydulcimer::block(message, count).map(of_block);
+            if proved != plain {
+                self.differ(|| format!("block {count} of {}: proved {proved:?}, second {plain:?}", hex(message)));
+            }
+            count += 1;
+        }
+        self.blocks += count as u64 - 1;
     }
 
     /// Writes a record into a buffer with both, and returns the length or the refusal's number.

@@ -1,4 +1,4 @@
-//! Records of the one implementation as records of the other, field by field.
+//! Records, sessions, answers and blocks of the one implementation as the other's, field by field.
 use raydulcimer as proved;
 use second as plain;
 
@@ -88,5 +88,49 @@ pub fn of_library(r: &proved::Record) -> plain::Record {
         set: r.set,
         capability,
         configuration,
+    }
+}
+
+pub fn of_session(s: &proved::raw::Session) -> plain::Session {
+    plain::Session {
+        profile: plain::Profile {
+            set: s.profile.set,
+            replies: s.profile.replies,
+            capability: of_capability(&s.profile.capability),
+        },
+        uwb: of_state(&s.uwb, of_uwb_configuration),
+        nan: of_state(&s.nan, of_nan_configuration),
+        rssi: of_state(&s.rssi, of_rssi),
+        mark: s.mark != 0,
+    }
+}
+
+fn of_state<T, U>(state: &proved::raw::State<T>, of_settings: fn(&T) -> U) -> plain::Ranging<U> {
+    plain::Ranging {
+        on: state.ranging != 0,
+        settings: of_settings(&state.settings),
+    }
+}
+
+pub fn to_answer(answer: Result<plain::Answer, plain::Refusal>) -> proved::raw::Answer {
+    match answer {
+        Ok(answer) => proved::raw::Answer {
+            refusal: 0,
+            length: answer.length,
+            set: answer.set,
+            stopped: answer.stopped,
+        },
+        Err(refusal) => proved::raw::Answer {
+            refusal: refusal.number(),
+            ..Default::default()
+        },
+    }
+}
+
+pub fn of_block(b: proved::Block) -> plain::Block {
+    plain::Block {
+        place: b.place,
+        id: b.id,
+        size: b.size,
     }
 }

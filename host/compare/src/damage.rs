@@ -58,6 +58,15 @@ fn numbers() -> Vec<u64> {
         .collect()
 }
 
+/// A record of nothing but chance.
+pub fn any_record(random: &mut Random) -> Record {
+    let mut any = Record::default();
+    for field in fields() {
+        field(&mut any, random.next());
+    }
+    any
+}
+
 pub fn run(checker: &mut Checker, random: &mut Random) {
     let (fields, numbers) = (fields(), numbers());
     let mut records: Vec<Record> = [0, 3, 6, 7]
@@ -83,10 +92,7 @@ pub fn run(checker: &mut Checker, random: &mut Random) {
         }
     }
     for _ in 0..10_000 {
-        let mut any = Record::default();
-        for field in &fields {
-            field(&mut any, random.next());
-        }
+        let any = any_record(random);
         let _ = checker.write(&any, random.below(200));
     }
 }

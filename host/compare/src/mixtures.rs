@@ -17,27 +17,35 @@ fn place(random: &mut Random, shape: &Shape) -> Option<usize> {
     (!shape.blocks.is_empty()).then(|| random.below(shape.blocks.len()))
 }
 
-/// A change that keeps the message in parts.
-fn change_shape(random: &mut Random, shape: &mut Shape) -> Option<()> {
-    match random.below(7) {
-        0 => shape.version = random.pick(&[0, 1, 2, 3, 255]),
-        1 => {
+/// A change that keeps a message with blocks well formed: a reserved block more, another order, or a longer block.
+pub fn decorate(random: &mut Random, shape: &mut Shape) -> Option<()> {
+    match random.below(3) {
+        0 => {
             let at = random.below(shape.blocks.len() + 1);
             let (id, size) = (4 + random.below(12) as u8, random.below(12));
             shape.set |= 1 << id;
             shape.again |= 1 << id;
             shape.blocks.insert(at, Block::new(id, random.octets(size)));
         }
-        2 => {
+        1 => {
             let (one, other) = (place(random, shape)?, place(random, shape)?);
             shape.blocks.swap(one, other);
         }
-        3 => {
+        _ => {
             let at = place(random, shape)?;
             let more = random.below(4);
             shape.blocks[at].fields.extend(random.octets(more));
             shape.blocks[at].size = shape.blocks[at].fields.len() as u8 + 2;
         }
+    }
+    Some(())
+}
+
+/// A change that keeps the message in parts.
+pub fn change_shape(random: &mut Random, shape: &mut Shape) -> Option<()> {
+    match random.below(7) {
+        0 => shape.version = random.pick(&[0, 1, 2, 3, 255]),
+        1..=3 => decorate(random, shape)?,
         4 => {
             let at = place(random, shape)?;
             shape.blocks[at].size = shape.blocks[at]
@@ -55,7 +63,7 @@ fn change_shape(random: &mut Random, shape: &mut Shape) -> Option<()> {
 }
 
 /// A change of the octets.
-fn change_octets(random: &mut Random, message: &mut Vec<u8>) {
+pub fn change_octets(random: &mut Random, message: &mut Vec<u8>) {
     let at = random.below(message.len() + 1);
     match random.below(4) {
         0 => message.truncate(at),

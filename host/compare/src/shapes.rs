@@ -1,7 +1,7 @@
 //! Every shape of valid message: all sets, key and name lengths, and allowed values.
 use crate::random::Random;
 
-const INTERVALS: [u16; 4] = [96, 120, 240, 600];
+pub const INTERVALS: [u16; 4] = [96, 120, 240, 600];
 const KEY_LENGTHS: [usize; 3] = [8, 16, 32];
 
 /// A block as it is written: the size octet may say anything.
