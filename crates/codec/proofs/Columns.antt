@@ -1,17 +1,16 @@
 -- The blocks of a column: what is written by rising ID is whole, in normal form and read back; whole blocks in normal form are what is written.
-use Prim.Native.Nat.{ℕ, zero, suc, _+_, _-_, _≤_, _<_}
+use Prim.Native.Nat.{ℕ, zero, suc, _+_, _≤_, _<_}
 use native.Mathlib.Omega.{arith}
 use native.Mathlib.Nat.{eq-or-lt-of-le}
 use mathlib.Core.Logic.{⊎-elim}
 use mathlib.Core.Path.{_≡_, refl, sym, ap, _∙_, fun-ext}
-use mathlib.Core.Bool.{Bool, true, false, _&&_, cond}
+use mathlib.Core.Bool.{Bool, true, false, cond}
 use mathlib.Core.List.{List, [], _∷_, _++_, append-assoc, append-nil, flatten}
 use lib.Dec.{leb, eqb}
-use lib.ListN.{length, getD, take, drop, length-append, length-take}
-use lib.Seq.{take-length}
-use borrow.Author.Tests.{eqb-true, eqb-false, eq-eqb, ne-eqb, leb-true, leb-false}
+use lib.ListN.{length, getD, take, length-append, length-take}
+use borrow.Author.Tests.{eq-eqb, ne-eqb, leb-true, leb-false}
 use Rattle.codec.specs.Octets.{Octets}
-use Rattle.codec.specs.Layout.{Layout, number, octets, counted, Values, zeroes, allowed, Typed, cleared, zeroed, write, value, need}
+use Rattle.codec.specs.Layout.{Layout, number, octets, counted, Values, zeroes, allowed, Typed, cleared, write, value, need}
 use Rattle.codec.specs.Technology.{bit}
 use Rattle.codec.specs.Records.{Column, capabilities, configurations, blank}
 use Rattle.codec.specs.Blocks.{capabilityBlock, configurationBlock}
@@ -23,8 +22,8 @@ use Rattle.codec.proofs.Laws.{long-LE}
 use Rattle.codec.proofs.Outcomes.{by-bool, and-true}
 use Rattle.codec.proofs.Layouts.{fits, block as layoutBlock, block-fits}
 use Rattle.codec.proofs.BlockCases.{no-fields}
-use Rattle.codec.proofs.Fields.{octets-none, octets-cons, octets-append, octets-write, back, forth, zeroed-only, zeroed-zeroes}
-use Rattle.codec.proofs.Counting.{one, count, Has, this, later}
+use Rattle.codec.proofs.Fields.{octets-none, octets-cons, octets-append, octets-write, back, zeroed-only}
+use Rattle.codec.proofs.Counting.{one, count}
 
 pub rising-once : (blocks : List (List ℕ)) → Rising blocks → Once blocks
 rising-once [] h = tt

@@ -1,28 +1,27 @@
 -- An accepted message's record is valid, and the message is the record's normal form exactly if it is in normal form.
-use Prim.Native.Nat.{ℕ, zero, suc, _+_, _-_, _/_, _%_, _^_, _≤_, _<_}
+use Prim.Native.Nat.{ℕ, zero, suc, _+_, _/_, _%_, _≤_, _<_}
 use native.Mathlib.Omega.{arith}
 use native.Mathlib.Nat.{mod-eq-of-lt}
-use mathlib.Core.Logic.{_↔_}
 use mathlib.Core.Path.{_≡_, refl, sym, ap, _∙_, subst}
-use mathlib.Core.Bool.{Bool, true, false, _&&_, cond}
+use mathlib.Core.Bool.{Bool, true, false, cond}
 use mathlib.Core.List.{List, [], _∷_, _++_, append-nil, flatten}
 use lib.Count.{ones}
-use lib.Dec.{leb, ltb, eqb, lit<}
-use lib.ListN.{length, getD, take, drop, length-append}
+use lib.Dec.{eqb, lit<}
+use lib.ListN.{length, getD, take}
 use lib.Seq.{take-length}
-use borrow.Author.Tests.{eqb-true, eqb-false, eq-eqb, ne-eqb, lt-ltb}
+use borrow.Author.Tests.{eqb-true, eq-eqb, ne-eqb, lt-ltb}
 use Rattle.codec.specs.Octets.{Octets}
-use Rattle.codec.specs.Layout.{Layout, Values, zeroes, allowed, Typed, cleared, zeroed, write, value, need}
+use Rattle.codec.specs.Layout.{Layout, Values, zeroes, allowed, Typed, write, value, need}
 use Rattle.codec.specs.Technology.{bit, known}
-use Rattle.codec.specs.Records.{Column, capabilities, configurations, blank, accepted, answer}
-use Rattle.codec.specs.Message.{layoutsOf, fieldsIn, columnOf, recordOf, reading}
+use Rattle.codec.specs.Records.{Column, capabilities, configurations, blank, accepted}
+use Rattle.codec.specs.Message.{fieldsIn, columnOf, recordOf}
 use Rattle.codec.specs.WellFormed.{Whole, Each, Once, sets, WellFormed}
 use Rattle.codec.specs.Valid.{TypedRecord, validFields, setIn, validColumn, valid}
 use Rattle.codec.specs.NormalForm.{block, rising, columnBlocks, blocksOf, normal, Rising, NormalForm}
 use Rattle.codec.specs.declared.records.Record.{Record}
 use Rattle.codec.proofs.Laws.{two-head}
 use Rattle.codec.proofs.Layouts.{need-from}
-use Rattle.codec.proofs.Outcomes.{by-bool, and-true}
+use Rattle.codec.proofs.Outcomes.{by-bool}
 use Rattle.codec.proofs.Bits.{bit-under}
 use Rattle.codec.proofs.Fields.{octets-left, octets-right, forth, typed-zeroes, zeroed-zeroes}
 use Rattle.codec.proofs.Exact.{small}

@@ -1,18 +1,18 @@
 -- The normal form of a valid record is well formed with that record, fits the message limit and is in normal form; so reading it gives the record back.
-use Prim.Native.Nat.{ℕ, zero, suc, _+_, _%_, _≤_, _<_}
+use Prim.Native.Nat.{ℕ, suc, _≤_, _<_}
 use native.Mathlib.Omega.{arith}
 use native.Mathlib.Nat.{mod-eq-of-lt}
 use mathlib.Core.Logic.{inl}
-use mathlib.Core.Path.{_≡_, refl, sym, ap, _∙_, subst}
-use mathlib.Core.Bool.{Bool, true, false, _&&_, cond}
+use mathlib.Core.Path.{_≡_, refl, sym, ap, _∙_}
+use mathlib.Core.Bool.{Bool, true, false, cond}
 use mathlib.Core.List.{List, [], _∷_, _++_, append-nil, flatten}
 use lib.Dec.{ltb, eqb}
 use lib.ListN.{length, getD, length-append}
 use borrow.Author.Tests.{eqb-true, ltb-true}
 use Rattle.codec.specs.Octets.{Octets, toLE}
 use Rattle.codec.specs.Layout.{need}
-use Rattle.codec.specs.Technology.{bit, known}
-use Rattle.codec.specs.Records.{capabilities, configurations, accepted, answer}
+use Rattle.codec.specs.Technology.{known}
+use Rattle.codec.specs.Records.{capabilities, configurations}
 use Rattle.codec.specs.Message.{messageLimit, assigned, blockCount, layoutsOf, recordOf, reading}
 use Rattle.codec.specs.WellFormed.{Whole, Each, sets, WellFormed}
 use Rattle.codec.specs.Valid.{TypedRecord, setIn, validColumn, valid}
@@ -20,7 +20,7 @@ use Rattle.codec.specs.NormalForm.{columnBlocks, blocksOf, normal, Risin
 use Rattle.codec.specs.declared.records.Record.{Record}
 use Rattle.codec.proofs.Outcomes.{by-bool, and-true}
 use Rattle.codec.proofs.Counting.{count-under}
-use Rattle.codec.proofs.Columns.{rising-once, rising-rises, rising-count, capabilities-lawful, configurations-lawful, total, column-size, column-whole, column-exact, column-back, column-blank, octets-column, flatten-append}
+use Rattle.codec.proofs.Columns.{rising-once, rising-rises, rising-count, capabilities-lawful, configurations-lawful, column-size, column-whole, column-exact, column-back, column-blank, octets-column, flatten-append}
 use Rattle.codec.proofs.Fields.{octets-none, octets-cons, octets-append, octets-LE}
 
 -- what the blocks that are written keep

@@ -1,9 +1,8 @@
 -- The normal form of a record, and messages in normal form.
 use Prim.Native.Nat.{ℕ, zero, suc, _+_, _<_}
 use mathlib.Core.Path.{_≡_}
-use mathlib.Core.Bool.{Bool, cond}
+use mathlib.Core.Bool.{cond}
 use mathlib.Core.List.{List, [], _∷_, _++_, flatten}
-use lib.Dec.{eqb}
 use lib.ListN.{length, getD}
 use Rattle.codec.specs.Layout.{Layout, Values, write, need}
 use Rattle.codec.specs.Technology.{bit}

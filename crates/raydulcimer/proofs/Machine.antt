@@ -1,4 +1,5 @@
--- What both calls by reference know of the session's structs: how a session lies in memory, as one value that no walk takes apart.
+-- What the walks of both calls by reference know of the session's structs.
+use Prim.Native.Nat.{ℕ}
 use mathlib.Core.List.{[], _∷_}
 use mir.Syntax.{Sym, Ty, Tys, tyInt, tyBool, tyFloat, tyPtr, tyRef, tyArray, tyUnit, tyStruct, tyEnum, tyNamed, tnil}
 use mir.Val.{Val}
@@ -33,6 +34,11 @@ fieldsOf (tyStruct ν τs) = τs
 fieldsOf (tyEnum ν τss) = tnil
 fieldsOf (tyNamed ν) = tnil
 
+-- the place of the answer in what a call by value returns, after the session
+abbrev pub answerAt : ℕ
+answerAt = 176
+
+-- a session's machine value, which no walk takes apart
 pub machine : Session → Val
 machine h = LL.val T.the-type T′.the-laws h
 

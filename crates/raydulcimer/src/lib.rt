@@ -12,7 +12,8 @@ ghost use Rattle.codec.specs.Message.{reading};
 ghost use Rattle.codec.specs.Records.{answer};
 ghost use Rattle.codec.specs.Writing.{Writes};
 ghost use Rattle.session.specs.Rules.{message, advertisement};
-ghost use Rattle.session.specs.Session.{sessionCall, Gives, profileOf, started};
+ghost use Rattle.session.specs.Session.{profileOf, started};
+ghost use Rattle.raydulcimer.specs.ByReference.{Alters};
 
 // Reads a message: its record, or the number of the refusal that the order of checks names.
 #[no_mangle]
@@ -50,7 +51,7 @@ pub extern "C" fn raydulcimer_start(profile: Record, replies: u8) -> Started
 // Gives a session a message.
 #[no_mangle]
 pub extern "C" fn raydulcimer_message(s: &mut Session, octets: &[u8], out: &mut [u8]) -> Answer
-    ensures { λ r. ⌜ Gives (now (s .entry)) (sessionCall (now (s .entry)) (message (now (octets .entry)) (now (out .entry)))) (now (out .entry)) (record { session = now (s .exit); answer = r }) (now (out .exit)) ⌝ }
+    ensures { λ r. ⌜ Alters (now (s .entry)) (message (now (octets .entry)) (now (out .entry))) r (now (s .exit)) (now (out .exit)) ⌝ }
 {
     let t = session::message(*s, octets, out);
     *s = t.session;
@@ -60,7 +61,7 @@ pub extern "C" fn raydulcimer_message(s: &mut Session, octets: &[u8], out: &mut 
 // Has a session advertise its whole profile.
 #[no_mangle]
 pub extern "C" fn raydulcimer_advertise(s: &mut Session, out: &mut [u8]) -> Answer
-    ensures { λ r. ⌜ Gives (now (s .entry)) (sessionCall (now (s .entry)) (advertisement (now (out .entry)))) (now (out .entry)) (record { session = now (s .exit); answer = r }) (now (out .exit)) ⌝ }
+    ensures { λ r. ⌜ Alters (now (s .entry)) (advertisement (now (out .entry))) r (now (s .exit)) (now (out .exit)) ⌝ }
 {
     let t = session::advertise(*s, out);
     *s = t.session;

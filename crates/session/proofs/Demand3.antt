@@ -39,14 +39,14 @@ concluded p b v h = go (leb (length (octetsOf (v .reply))) (length b))
 
 module _ (p : Profile) (s : Session) (h : s .profile ≡ p) where
   served-keeps : (k : Kind) (r : Record) (b : List ℕ) → Of p (serve sessionKeeps (s .profile) k r s b)
-  unfolding serve giveOut configure halt
+  unfolding serve
   served-keeps request r b = concluded p b _ h
   served-keeps configuration r b = concluded p b _ h
   served-keeps stop r b = concluded p b _ h
   served-keeps other r b = tt
 
   call-keeps : (c : Call) → Of p (call sessionKeeps (s .profile) s c)
-  unfolding call giveOut
+  unfolding call
   call-keeps (message m b) = go (reading m)
     where
       go : (o : Checked Record) → Of p (andThen o λ r. serve sessionKeeps (s .profile) (kindOf (r .id)) r s b)

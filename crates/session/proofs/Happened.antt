@@ -2,8 +2,8 @@
 use Prim.Native.Nat.{ℕ, _≤_, _<_}
 use native.Mathlib.Omega.{arith}
 use mathlib.Core.Path.{_≡_, refl, sym, ap, subst, _∙_}
-use mathlib.Core.List.{List, [], _∷_, _++_}
-use mathlib.Core.Option.{Option, none, some, Option·some-injective, Option·none-ne-some}
+use mathlib.Core.List.{List}
+use mathlib.Core.Option.{none, some, Option·some-injective, Option·none-ne-some}
 use mathlib.Core.Bool.{Bool, true, false, cond}
 use lib.Dec.{leb}
 use lib.ListN.{length}
@@ -17,8 +17,8 @@ use Rattle.codec.specs.declared.records.SetMessage.{SetMessage}
 use Rattle.codec.proofs.Outcomes.{by-bool}
 use Rattle.codec.proofs.Pieces.{normal-set}
 use Rattle.session.specs.declared.state.Profile.{Profile}
-use Rattle.session.specs.Technology.{Technology, names, setOf}
-use Rattle.session.specs.Rules.{Call, message, advertisement, lent, Kind, request, configuration, stop, other, kindOf, explicit, octetsOf, shows, capabilityReply, explicitReply, Served, conclude, after, giveOut, setBy, configure, endedBy, halt, serve, call, answerTo}
+use Rattle.session.specs.Technology.{names, setOf}
+use Rattle.session.specs.Rules.{Call, message, advertisement, Kind, request, configuration, stop, other, kindOf, explicit, octetsOf, shows, capabilityReply, Served, conclude, after, setBy, endedBy, serve, call, answerTo}
 use Rattle.session.specs.Ledger.{Ledger, ledgerKeeps, ledgerCall}
 use Rattle.session.specs.History.{accepted, heard, Fits, Accepted, Advertised}
 
@@ -101,7 +101,7 @@ module _ (p : Profile) (l : Ledger) (b : List ℕ) where
     Answer = Happened p l c
 
     by-kind : (k : Kind) → kindOf (r .id) ≡ k → Answer
-    unfolding serve giveOut configure halt
+    unfolding serve
     by-kind request h =
         by-room (length (normal (capabilityReply p (names (r .set))))) (length b)
         (λ y. asked r (record { says = says; kind = h; room = y }) (ap (λ (o : Checked (Served Ledger)). after l o) (to request h ∙ fits b _ y)))
@@ -125,7 +125,7 @@ isMessage (message m b) = 1
 isMessage (advertisement b) = 0
 
 pub happened : (p : Profile) (l : Ledger) (c : Call) → Happened p l c
-unfolding call giveOut
+unfolding call
 happened p l (message m b) = go (reading m) refl
   where
     go : (o : Checked Record) → reading m ≡ o → Happened p l (message m b)
@@ -141,7 +141,7 @@ happened p l (advertisement b) =
 
 -- the set that an accepted Configuration returns
 pub configured-set : (p : Profile) (l : Ledger) (c : Call) (r : Record) → Accepted p configuration c r → answerTo (ledgerCall p l c) .set ≡ setOf (setBy ledgerKeeps p (r .set) (r .configuration) l)
-unfolding serve configure
+unfolding serve
 configured-set p l (message m b) r a = go (reading m) refl
   where
     go : (o : Checked Record) → reading m ≡ o → answerTo (ledgerCall p l (message m b)) .set ≡ setOf (setBy ledgerKeeps p (r .set) (r .configuration) l)

@@ -5,10 +5,9 @@ use mathlib.Core.Path.{_≡_, refl, sym, ap, subst, _∙_}
 use mathlib.Core.List.{List, [], _∷_, _++_, append-assoc}
 use mathlib.Core.Option.{Option, none, some, Option·none-ne-some}
 use mathlib.Core.Logic.{_↔_, _⊎_, inl, inr}
-use mathlib.Core.Bool.{Bool, true, false, cond, not, _&&_, _||_, true≢false, and-true as Bool·and-true, and-false, or-true, or-false}
+use mathlib.Core.Bool.{Bool, true, false, cond, not, _&&_, true≢false, and-true as Bool·and-true, and-false, or-true, or-false}
 use lib.ListN.{length, length-append}
 use borrow.Author.Tests.{not-true}
-use Rattle.codec.specs.WellFormed.{Each}
 use Rattle.codec.specs.declared.records.Record.{Record}
 use Rattle.codec.proofs.Outcomes.{by-bool, and-true}
 use Rattle.session.specs.declared.state.Profile.{Profile}
@@ -22,7 +21,7 @@ use Rattle.session.specs.Session.{inForceIn, profileOf, started}
 use Rattle.session.specs.Trace.{Event, Ran, callsOf}
 use Rattle.session.proofs.SetLaws.{names-set}
 use Rattle.session.proofs.Demand3.{profile, demand-3}
-use Rattle.session.proofs.Last.{Put, Dropped, Left, Turn, Last, stays, by-history}
+use Rattle.session.proofs.Last.{Turn, stays, by-history}
 use Rattle.session.proofs.Happened.{Happened, refused, asked, advertised, configured, stopped, happened, configured-set, same-content, no-request-stop, no-request-configuration, no-configuration-stop, no-advertisement}
 
 both : {a b : Bool} → a ≡ true → b ≡ true → (a && b) ≡ true

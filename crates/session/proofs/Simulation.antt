@@ -46,8 +46,7 @@ module _ {S T : Type 0} (f : S → T) where
       go false = refl
 
   module _ (K : Keeps S) (M : Keeps T) (F : Follows K M f) (p : Profile) (s : S) (b : List ℕ) where
-    give-through : (wanted : Technology → Bool) → through (giveOut K p wanted s b) ≡ giveOut M p wanted (f s) b
-    unfolding giveOut
+    give-through : (wanted : Technology → Bool) → through (conclude b (giveOut K p wanted s)) ≡ conclude b (giveOut M p wanted (f s))
     give-through wanted = through-conclude b _ ∙ rw (F .give)
 
     set-same : (set : ℕ) (c : Configuration) → setBy K p set c s ≡ setBy M p set c (f s)
@@ -59,7 +58,7 @@ module _ {S T : Type 0} (f : S → T) where
     ended-same set = fun-ext (λ t. ap (λ (x : Bool). names set t && x) (F .ranging s t))
 
     serve-through : (k : Kind) (r : Record) → through (serve K p k r s b) ≡ serve M p k r (f s) b
-    unfolding serve configure halt
+    unfolding serve
     serve-through request r = give-through (names (r .set))
     serve-through configuration r = through-conclude b _ ∙ rw (F .put, set-same (r .set) (r .configuration))
     serve-through stop r = through-conclude b _ ∙ rw (F .stop, ended-same (r .set))

@@ -1,6 +1,5 @@
 -- From what the codec's writers promise to what a call gives.
 use Prim.Native.Nat.{ℕ, zero-le, _+_, _<_}
-use native.Mathlib.Omega.{arith}
 use mathlib.Core.Path.{_≡_, refl, sym, ap, subst, fun-ext, _∙_}
 use mathlib.Core.List.{List}
 use mathlib.Core.Option.{none, some}
@@ -15,7 +14,6 @@ use Rattle.codec.specs.Technology.{bit}
 use Rattle.codec.specs.Records.{capabilities, response, setRecord, accepted, answer, forTag, ofUwbCapability, ofCsCapability, ofNanCapability}
 use Rattle.codec.specs.Message.{reading}
 use Rattle.codec.specs.Valid.{validFields, validColumn, valid}
-use Rattle.codec.specs.NormalForm.{normal}
 use Rattle.codec.specs.Writing.{writing, Writes}
 use Rattle.codec.specs.declared.records.Configuration.{Configuration}
 use Rattle.codec.specs.declared.records.Record.{Record}
@@ -30,7 +28,7 @@ use Rattle.session.specs.declared.state.Step.{Step}
 use Rattle.session.specs.Technology.{Technology, uwb, cs, nan, rssi, among, names, setOf}
 use Rattle.session.specs.Rules.{validProfile, Call, message, advertisement, Kind, request, configuration, stop, other, kindOf, octetsOf, replied, shows, capabilityReply, Served, conclude, giveOut, configure, endedBy, halt, serve, call}
 use Rattle.session.specs.Session.{yes, rangingIn, sessionKeeps, sessionCall, Gives, profileOf}
-use Rattle.session.specs.Replies.{delivery, Delivers, settle, givenOut}
+use Rattle.session.specs.Replies.{delivery, Delivers, settle}
 use Rattle.session.proofs.SetLaws.{set-below, names-set}
 
 abbrev pub refusal : Session → ℕ → Step
@@ -92,8 +90,12 @@ pub none-either : (z : Bool) → _≡_ {A = ℕ} (cond z 0 0) 0
 none-either true = refl
 none-either false = refl
 
--- what a call sets or stops, it does where its reply is delivered
+-- what a call gives out, sets or stops, it does where its reply is delivered
 module _ (f : Technology → Bool) (s : Session) where
+  pub give-if : (z : Bool) → sessionKeeps .give (among (f uwb && z) false false false) s ≡ cond z (sessionKeeps .give f s) s
+  give-if true = rw (with-true (f uwb))
+  give-if false = rw (and-false (f uwb))
+
   pub put-if : (c : Configuration) (z : Bool) → sessionKeeps .put (among (f uwb && z) false (f nan && z) (f rssi && z)) c s ≡ cond z (sessionKeeps .put f c s) s
   put-if c true = rw (with-true (f uwb), with-true (f nan), with-true (f rssi))
   put-if c false = rw (and-false (f uwb), and-false (f nan), and-false (f rssi))
@@ -101,28 +103,6 @@ module _ (f : Technology → Bool) (s : Session) where
   pub stop-if : (z : Bool) → sessionKeeps .stop (among (f uwb && z) false (f nan && z) (f rssi && z)) s ≡ cond z (sessionKeeps .stop f s) s
   stop-if true = rw (with-true (f uwb), with-true (f nan), with-true (f rssi))
   stop-if false = rw (and-false (f uwb), and-false (f nan), and-false (f rssi))
-
--- a Capability Response that is delivered takes the mark where it shows UWB
-pub cleared : (s : Session) (wanted : Technology → Bool) (w : Written) → _≡_ {A = Step} (record {
-  session = record { profile = s .profile; uwb = s .uwb; nan = s .nan; rssi = s .rssi; mark = cond (shows (s .profile) wanted uwb && eqb (w .refusal) 0) 0 (s .mark) };
-  answer = record { refusal = w .refusal; length = w .length; set = 0; stopped = 0 };
-}) (givenOut s wanted w)
-cleared s wanted w = ap (λ (x : Session). record { session = x; answer = record { refusal = w .refusal; length = w .length; set = 0; stopped = 0 } }) (go (shows (s .profile) wanted uwb) (eqb (w .refusal) 0))
-  where
-    marked : ℕ → Session
-    marked n = record { profile = s .profile; uwb = s .uwb; nan = s .nan; rssi = s .rssi; mark = n }
-
-    go : (u z : Bool) → marked (cond (u && z) 0 (s .mark)) ≡ cond z (marked (cond u 0 (s .mark))) s
-    go true true = refl
-    go true false = refl
-    go false true = refl
-    go false false = refl
-
-pub gave-out : (s : Session) (wanted : Technology → Bool) {b e : List ℕ} {w : Written} → Delivers (some (capabilityReply (s .profile) wanted)) b w e → Gives s (giveOut sessionKeeps (s .profile) wanted s b) b (givenOut s wanted w) e
-unfolding giveOut conclude delivery replied
-gave-out s wanted {b} d = by-bool (leb (length (normal (capabilityReply (s .profile) wanted))) (length b))
-    (λ t. record { session = rw (d .answers, t); answer = rw (d .answers, t); buffer = rw (d .leaves, t) })
-    (λ f. record { session = rw (d .answers, f); answer = rw (d .answers, f); buffer = rw (d .leaves, f) })
 
 -- ---- what a Stop ends, where CS is never ranging
 
@@ -162,17 +142,17 @@ module _ (s : Session) (m b : List ℕ) (v : validProfile (s .profile) ≡ true)
         go (refuse x) q = absurd (no-zero x (sym (ap (λ (y : TagReading). y .refusal) (h ∙ ap (λ (o : Checked Record). forTag (answer o)) q)) ∙ z))
         go (accept r) q = rw (v, q) (g r (h ∙ ap (λ (o : Checked Record). forTag (answer o)) q))
 
-    pub a-request : a .id ≡ 0 → Gives s (giveOut sessionKeeps (s .profile) (names (a .set)) s b) b w e → Gives s (sessionCall s (message m b)) b w e
+    pub a-request : a .id ≡ 0 → Gives s (conclude b (giveOut sessionKeeps (s .profile) (names (a .set)) s)) b w e → Gives s (sessionCall s (message m b)) b w e
     unfolding serve
-    a-request k g = was-read λ r q. by-kind s r request (ap kindOf (same-id r 0 q k)) (subst (λ (y : TagReading). Gives s (giveOut sessionKeeps (s .profile) (names (y .set)) s b) b w e) q g)
+    a-request k g = was-read λ r q. by-kind s r request (ap kindOf (same-id r 0 q k)) (subst (λ (y : TagReading). Gives s (conclude b (giveOut sessionKeeps (s .profile) (names (y .set)) s)) b w e) q g)
 
-    pub a-configuration : a .id ≡ 2 → Gives s (configure sessionKeeps (s .profile) (a .set) (a .configuration) s b) b w e → Gives s (sessionCall s (message m b)) b w e
+    pub a-configuration : a .id ≡ 2 → Gives s (conclude b (configure sessionKeeps (s .profile) (a .set) (a .configuration) s)) b w e → Gives s (sessionCall s (message m b)) b w e
     unfolding serve
-    a-configuration k g = was-read λ r q. by-kind s r configuration (ap kindOf (same-id r 2 q k)) (subst (λ (y : TagReading). Gives s (configure sessionKeeps (s .profile) (y .set) (y .configuration) s b) b w e) q g)
+    a-configuration k g = was-read λ r q. by-kind s r configuration (ap kindOf (same-id r 2 q k)) (subst (λ (y : TagReading). Gives s (conclude b (configure sessionKeeps (s .profile) (y .set) (y .configuration) s)) b w e) q g)
 
-    pub a-stop : a .id ≡ 6 → Gives s (halt sessionKeeps (s .profile) (a .set) s b) b w e → Gives s (sessionCall s (message m b)) b w e
+    pub a-stop : a .id ≡ 6 → Gives s (conclude b (halt sessionKeeps (s .profile) (a .set) s)) b w e → Gives s (sessionCall s (message m b)) b w e
     unfolding serve
-    a-stop k g = was-read λ r q. by-kind s r stop (ap kindOf (same-id r 6 q k)) (subst (λ (y : TagReading). Gives s (halt sessionKeeps (s .profile) (y .set) s b) b w e) q g)
+    a-stop k g = was-read λ r q. by-kind s r stop (ap kindOf (same-id r 6 q k)) (subst (λ (y : TagReading). Gives s (conclude b (halt sessionKeeps (s .profile) (y .set) s)) b w e) q g)
 
   pub another : a .refusal ≡ 0 → (a .id ≡ 0 → ⊥) → (a .id ≡ 2 → ⊥) → (a .id ≡ 6 → ⊥) → Gives s (sessionCall s (message m b)) b (refusal s 10) b
   unfolding serve
@@ -180,9 +160,9 @@ module _ (s : Session) (m b : List ℕ) (v : validProfile (s .profile) ≡ true)
       by-kind s r other (rw (ne-eqb (r .id) 0 (λ x. h (i ∙ x)), ne-eqb (r .id) 2 (λ x. k (i ∙ x)), ne-eqb (r .id) 6 (λ x. l (i ∙ x)))) (record { session = refl; answer = refl; buffer = refl })
 
 -- an advertisement wants every technology
-pub advertised : (s : Session) (b : List ℕ) → validProfile (s .profile) ≡ true → {w : Step} {e : List ℕ} → Gives s (giveOut sessionKeeps (s .profile) (names 15) s b) b w e → Gives s (sessionCall s (advertisement b)) b w e
+pub advertised : (s : Session) (b : List ℕ) → validProfile (s .profile) ≡ true → {w : Step} {e : List ℕ} → Gives s (conclude b (giveOut sessionKeeps (s .profile) (names 15) s)) b w e → Gives s (sessionCall s (advertisement b)) b w e
 unfolding sessionCall call
-advertised s b v {w} {e} g = rw v (subst (λ (f : Technology → Bool). Gives s (giveOut sessionKeeps (s .profile) f s b) b w e) (fun-ext all) g)
+advertised s b v {w} {e} g = rw v (subst (λ (f : Technology → Bool). Gives s (conclude b (giveOut sessionKeeps (s .profile) f s)) b w e) (fun-ext all) g)
   where
     all : (t : Technology) → names 15 t ≡ true
     all uwb = refl

@@ -3,7 +3,7 @@ use Prim.Native.Nat.{ℕ}
 use mathlib.Core.Path.{_≡_}
 use mathlib.Core.List.{List}
 use mathlib.Core.Option.{Option}
-use mathlib.Core.Bool.{Bool, cond}
+use mathlib.Core.Bool.{cond}
 use lib.Dec.{eqb, leb}
 use lib.ListN.{length}
 use Rattle.codec.specs.Refusal.{Checked, accept, demand, bufferTooShort}
@@ -12,9 +12,7 @@ use Rattle.codec.specs.declared.records.Record.{Record}
 use Rattle.codec.specs.declared.records.Written.{Written}
 use Rattle.session.specs.declared.state.Session.{Session}
 use Rattle.session.specs.declared.state.Step.{Step}
-use Rattle.session.specs.Technology.{Technology}
-use Rattle.session.specs.Rules.{octetsOf, shows, Served}
-use Rattle.session.specs.Session.{sessionKeeps}
+use Rattle.session.specs.Rules.{octetsOf, Served}
 
 -- the octets of a reply into a buffer of n octets
 unfoldable pub delivery : Option Record → ℕ → Checked (List ℕ)
@@ -34,11 +32,4 @@ settle s v w = record {
     set = cond (eqb (w .refusal) 0) (v .set) 0;
     stopped = cond (eqb (w .refusal) 0) (v .stopped) 0;
   };
-}
-
--- the same where the reply is a Capability Response, which sets and stops nothing
-abbrev pub givenOut : Session → (Technology → Bool) → Written → Step
-givenOut s wanted w = record {
-  session = cond (eqb (w .refusal) 0) (sessionKeeps .give (shows (s .profile) wanted) s) s;
-  answer = record { refusal = w .refusal; length = w .length; set = 0; stopped = 0 };
 }

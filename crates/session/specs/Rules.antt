@@ -2,7 +2,7 @@
 use Prim.Native.Nat.{ℕ}
 use mathlib.Core.List.{List, [], _++_}
 use mathlib.Core.Option.{Option, none, some}
-use mathlib.Core.Bool.{Bool, true, false, cond, not, _&&_}
+use mathlib.Core.Bool.{Bool, true, cond, not, _&&_}
 use lib.Dec.{leb, ltb, eqb}
 use lib.ListN.{length, drop}
 use Rattle.codec.specs.Refusal.{Checked, refuse, accept, demand, andThen, numberOf, notForTag, bufferTooShort}
@@ -100,49 +100,50 @@ pub record Keeps (S : Type 0) : Type 0 where
   pub stop : (Technology → Bool) → S → S
 
 module _ {S : Type 0} (K : Keeps S) (p : Profile) where
-  unfoldable pub giveOut : (Technology → Bool) → S → List ℕ → Checked (Served S)
-  giveOut wanted s b = conclude b (record {
+  -- Capability Responses take the mark where they show UWB; nothing is set or stopped
+  abbrev pub giveOut : (Technology → Bool) → S → Served S
+  giveOut wanted s = record {
     state = K .give (shows p wanted) s;
     reply = some (capabilityReply p wanted);
     set = 0;
     stopped = 0;
-  })
+  }
 
   -- what a Configuration sets
   unfoldable pub setBy : ℕ → Configuration → S → Technology → Bool
   setBy set c s t = sets p set c t (K .barred s t)
 
   -- a technology already ranging takes the new settings if set, else goes on with the old
-  unfoldable pub configure : ℕ → Configuration → S → List ℕ → Checked (Served S)
-  configure set c s b = conclude b (record {
+  abbrev pub configure : ℕ → Configuration → S → Served S
+  configure set c s = record {
     state = K .put (setBy set c s) c s;
     reply = explicitReply (p .replies) SetMessage.ConfigurationResponse (setOf (setBy set c s));
     set = setOf (setBy set c s);
     stopped = 0;
-  })
+  }
 
   -- the technologies named that are ranging stop
   unfoldable pub endedBy : ℕ → S → Technology → Bool
   endedBy set s t = names set t && K .ranging s t
 
-  unfoldable pub halt : ℕ → S → List ℕ → Checked (Served S)
-  halt set s b = conclude b (record {
+  abbrev pub halt : ℕ → S → Served S
+  halt set s = record {
     state = K .stop (endedBy set s) s;
     reply = explicitReply (p .replies) SetMessage.StopResponse (setOf (endedBy set s));
     set = 0;
     stopped = setOf (endedBy set s);
-  })
+  }
 
   unfoldable pub serve : Kind → Record → S → List ℕ → Checked (Served S)
-  serve request r s b = giveOut (names (r .set)) s b
-  serve configuration r s b = configure (r .set) (r .configuration) s b
-  serve stop r s b = halt (r .set) s b
+  serve request r s b = conclude b (giveOut (names (r .set)) s)
+  serve configuration r s b = conclude b (configure (r .set) (r .configuration) s)
+  serve stop r s b = conclude b (halt (r .set) s)
   serve other r s b = refuse notForTag
 
   -- the reader's refusals come first; an advertisement is a Request for the whole profile
   unfoldable pub call : S → Call → Checked (Served S)
   call s (message m b) = andThen (reading m) λ r. serve (kindOf (r .id)) r s b
-  call s (advertisement b) = giveOut (λ t. true) s b
+  call s (advertisement b) = conclude b (giveOut (λ t. true) s)
 
 -- ---- what a caller sees
 

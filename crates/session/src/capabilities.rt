@@ -11,8 +11,9 @@ ghost use mathlib.Core.Path.{_≡_};
 ghost use mathlib.Core.Bool.{true};
 ghost use mathlib.Core.Option.{some};
 ghost use Rattle.session.specs.Technology.{names};
-ghost use Rattle.session.specs.Rules.{validProfile, capabilityReply};
-ghost use Rattle.session.specs.Replies.{Delivers, givenOut};
+ghost use Rattle.session.specs.Rules.{validProfile, capabilityReply, giveOut};
+ghost use Rattle.session.specs.Session.{sessionKeeps};
+ghost use Rattle.session.specs.Replies.{Delivers, settle};
 
 // Writes message 1 with the blocks of the technologies that are wanted and in the profile.
 pub(crate) fn deliver_capabilities(p: Profile, wanted: u16, out: &mut [u8]) -> Written
@@ -29,7 +30,7 @@ pub(crate) fn deliver_capabilities(p: Profile, wanted: u16, out: &mut [u8]) -> W
 
 // The session and the answer after that.
 pub(crate) fn given_out(s: Session, wanted: u16, w: Written) -> Step
-    ensures { λ r. ⌜ r ≡ givenOut s (names wanted) w ⌝ }
+    ensures { λ r. ⌜ r ≡ settle s (giveOut sessionKeeps (s .profile) (names wanted) s) w ⌝ }
 {
     let cleared = both_have(wanted, s.profile.set, 0) & (w.refusal == 0);
     let mut session = s;

@@ -18,7 +18,7 @@ use codec::SetMessage;
 ghost use mathlib.Core.Path.{_≡_};
 ghost use mathlib.Core.Bool.{false};
 ghost use Rattle.session.specs.Technology.{uwb, cs, nan, rssi, among};
-ghost use Rattle.session.specs.Rules.{setBy, configure};
+ghost use Rattle.session.specs.Rules.{conclude, setBy, configure};
 ghost use Rattle.session.specs.Session.{sessionKeeps, Gives};
 
 fn sets_uwb(s: Session, set: u16, c: Configuration) -> bool
@@ -82,7 +82,7 @@ fn configured(s: Session, c: Configuration, uwb: bool, nan: bool, rssi: bool) ->
 
 // Sets what a Configuration sets, and writes message 3.
 pub(crate) fn configure(s: Session, set: u16, c: Configuration, out: &mut [u8]) -> Step
-    ensures { λ r. ⌜ Gives s (configure sessionKeeps (s .profile) set c s (now (out .entry))) (now (out .entry)) r (now (out .exit)) ⌝ }
+    ensures { λ r. ⌜ Gives s (conclude (now (out .entry)) (configure sessionKeeps (s .profile) set c s)) (now (out .entry)) r (now (out .exit)) ⌝ }
 {
     let uwb = sets_uwb(s, set, c);
     let cs = sets_cs(s, set, c);

@@ -14,7 +14,7 @@ use codec::has;
 ghost use mathlib.Core.Path.{_≡_};
 ghost use mathlib.Core.Bool.{false};
 ghost use Rattle.session.specs.Technology.{among};
-ghost use Rattle.session.specs.Rules.{halt};
+ghost use Rattle.session.specs.Rules.{conclude, halt};
 ghost use Rattle.session.specs.Session.{sessionKeeps, Gives};
 
 // The session without these technologies.
@@ -36,7 +36,7 @@ fn halted(s: Session, uwb: bool, nan: bool, rssi: bool) -> Session
 
 // Stops the technologies named that are ranging, and writes message 7.
 pub(crate) fn halt(s: Session, set: u16, out: &mut [u8]) -> Step
-    ensures { λ r. ⌜ Gives s (halt sessionKeeps (s .profile) set s (now (out .entry))) (now (out .entry)) r (now (out .exit)) ⌝ }
+    ensures { λ r. ⌜ Gives s (conclude (now (out .entry)) (halt sessionKeeps (s .profile) set s)) (now (out .entry)) r (now (out .exit)) ⌝ }
 {
     let uwb = has(set, 0) & (s.uwb.ranging != 0);
     let nan = has(set, 2) & (s.nan.ranging != 0);

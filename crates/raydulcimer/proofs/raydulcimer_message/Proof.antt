@@ -54,7 +54,7 @@ use Rattle.session.proofs.message as callee
 use Rattle.session.proofs.message.Symbol as callee-def
 use Rattle.session.proofs.message.Symbol.{name as #callee}
 use Rattle.session.proofs.message.Met as callee-thm
-use Rattle.raydulcimer.proofs.Machine.{nameOf, fieldsOf, machine, machine-tells}
+use Rattle.raydulcimer.proofs.Machine.{nameOf, fieldsOf, answerAt, machine, machine-tells}
 use Rattle.raydulcimer.proofs.raydulcimer_message.Key.{name as #self}
 use Rattle.raydulcimer.proofs.raydulcimer_message as self
 use Rattle.raydulcimer.proofs.raydulcimer_message.Statement as stated
@@ -139,7 +139,7 @@ module _ {M : Type 1} (𝓤 : URA M) (H : Heap 𝓤) (A : Atoms 𝓤) (W : Given
         -- [what the result owns; the tokens; reply's last list; true; the session's cell; what a Session owned; the open borrow; obs; auth; the locals]
         land ! (from ! (stop !)) (init ! 15 {τ = S′.mir} {b = l₄} {o = 0} {v = w} refl (LL.lawful S.the-type S′.the-laws 𝓤 H A W .typed t _ is .0)) $ rewrite ! 15 (λ (u : Val). ‵ (fat fullShare S′.mir l₄ 0 u)) (ap only (LL.tells S.the-type S′.the-laws t _ is)) refl $
         assigns ! (of-opd ! (load ! (from ! (fld ! {τ = T′.mir} {d = 0} refl (stop !))) (look-in ! 15 {q = fullShare} {τ = T′.mir} (sub ! {ν = nameOf S′.mir} {τs = fieldsOf S′.mir} 0 {τ = T′.mir} {d = 0} refl (whole !))))) (from ! (hop ! (look ! 21 refl) (stop !))) (store-raw ! 4 {τ = T′.mir} {b = b} {o = o} refl (LL.lawful T.the-type T′.the-laws 𝓤 H A W .typed (t .session) _ (LL.owed S.the-type S′.the-laws t _ is .0) .0)) $
-        assigns ! (of-opd ! (load ! (from ! (fld ! {τ = R′.mir} {d = 176} refl (stop !))) (look-in ! 15 {q = fullShare} {τ = R′.mir} (sub ! {ν = nameOf S′.mir} {τs = fieldsOf S′.mir} 1 {τ = R′.mir} {d = 176} refl (whole !))))) (from ! (stop !)) (init ! 23 {τ = R′.mir} {b = l₀} {o = 0} refl (LL.lawful R.the-type R′.the-laws 𝓤 H A W .typed (t .answer) _ (LL.owed S.the-type S′.the-laws t _ is .1 .0) .0)) $
+        assigns ! (of-opd ! (load ! (from ! (fld ! {τ = R′.mir} {d = answerAt} refl (stop !))) (look-in ! 15 {q = fullShare} {τ = R′.mir} (sub ! {ν = nameOf S′.mir} {τs = fieldsOf S′.mir} 1 {τ = R′.mir} {d = answerAt} refl (whole !))))) (from ! (stop !)) (init ! 23 {τ = R′.mir} {b = l₀} {o = 0} refl (LL.lawful R.the-type R′.the-laws 𝓤 H A W .typed (t .answer) _ (LL.owed S.the-type S′.the-laws t _ is .1 .0) .0)) $
         -- the session's borrow is closed at the new record
         owned ! T.the-row (Is T.the-row) (LL.makes T.the-type T′.the-plain 𝓤 H A) (t .session) _ (LL.owed S.the-type S′.the-laws t _ is .0) $
         move ! (5 ∷ 0 ∷ 7 ∷ 8 ∷ 9 ∷ []) $ closes ! tt T.the-row (t .session) (LL.vals T.the-type T′.the-laws (t .session)) b o $

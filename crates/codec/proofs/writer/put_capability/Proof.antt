@@ -1,6 +1,5 @@
 use Rattle.codec.proofs.Pieces.{room-uwb, room-cs, room-nan, room-rssi, put-column}
 use Rattle.codec.specs.Records.{capabilities}
-use Rattle.codec.proofs.Pieces.{room-uwb, room-cs, room-nan, room-rssi, put-column}
 use borrow.Author.Needs.{needs}
 use Rattle.codec.proofs.writer.put_capability.Statement.{statement}
 use Rattle.codec.proofs.writer.put_capability.Tie as tie

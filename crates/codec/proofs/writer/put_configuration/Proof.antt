@@ -1,6 +1,5 @@
 use Rattle.codec.proofs.Pieces.{room-uwb, room-cs, room-nan, room-rssi, put-column, cs-put}
 use Rattle.codec.specs.Records.{configurations}
-use Rattle.codec.proofs.Pieces.{room-uwb, room-cs, room-nan, room-rssi, put-column}
 use borrow.Author.Needs.{needs}
 use Rattle.codec.proofs.writer.put_configuration.Statement.{statement}
 use Rattle.codec.proofs.writer.put_configuration.Tie as tie

@@ -1,7 +1,6 @@
 use Rattle.codec.proofs.Pieces.{sized-column}
 use native.Mathlib.Omega.{arith}
 use Rattle.codec.specs.Records.{capabilities}
-use Rattle.codec.proofs.Pieces.{sized-column}
 use borrow.Author.Needs.{needs}
 use Rattle.codec.proofs.writer.size_capability.Statement.{statement}
 use Rattle.codec.proofs.writer.size_capability.Tie as tie

@@ -1,7 +1,6 @@
 use Rattle.codec.proofs.Pieces.{sized-column, cs-sized}
 use native.Mathlib.Omega.{arith}
 use Rattle.codec.specs.Records.{configurations}
-use Rattle.codec.proofs.Pieces.{sized-column}
 use borrow.Author.Needs.{needs}
 use Rattle.codec.proofs.writer.size_configuration.Statement.{statement}
 use Rattle.codec.proofs.writer.size_configuration.Tie as tie

@@ -4,7 +4,7 @@ use Rattle.codec.proofs.Puts.{put-then}
 use Rattle.codec.proofs.Laws.{failed, passed}
 use Rattle.codec.specs.Records.{response, part}
 use native.Mathlib.Omega.{arith}
-use mathlib.Core.Path.{refl, ap}
+use mathlib.Core.Path.{ap}
 use lib.ListN.{length}
 use borrow.Author.Needs.{needs}
 use Rattle.codec.proofs.writer.write_response.Statement.{statement}

@@ -1,7 +1,8 @@
+use Rattle.session.specs.Session.{sessionKeeps}
 use Rattle.codec.proofs.Laws.{failed, passed}
 use Rattle.session.specs.Technology.{names}
-use Rattle.session.specs.Rules.{advertisement}
-use Rattle.session.proofs.Steps.{not-valid, advertised, gave-out}
+use Rattle.session.specs.Rules.{advertisement, giveOut}
+use Rattle.session.proofs.Steps.{not-valid, advertised, settled}
 use borrow.Author.Needs.{needs}
 use Rattle.session.proofs.calls.advertise.Statement.{statement}
 use Rattle.session.proofs.calls.advertise.Tie as tie
@@ -31,7 +32,7 @@ same-length : tie.Need-same-length
 same-length c = search needs
 
 returns-2 : tie.Need-returns-2
-returns-2 c = rw (c .given-out .ensures) (advertised (c .before .before .before .before .before .before .before .before .args .s) (c .before .before .before .before .before .before .before .before .args .out .now) (passed (c .before .before .before .before .before .before .valid-profile .ensures) (c .before .before .before .before .before .if1 .left)) (gave-out (c .before .before .before .before .before .before .before .before .args .s) (names 15) (c .before .before .before .deliver-capabilities .ensures)))
+returns-2 c = rw (c .given-out .ensures) (advertised (c .before .before .before .before .before .before .before .before .args .s) (c .before .before .before .before .before .before .before .before .args .out .now) (passed (c .before .before .before .before .before .before .valid-profile .ensures) (c .before .before .before .before .before .if1 .left)) (settled (c .before .before .before .before .before .before .before .before .args .s) (giveOut sessionKeeps (c .before .before .before .before .before .before .before .before .args .s .profile) (names 15) (c .before .before .before .before .before .before .before .before .args .s)) (c .before .before .before .deliver-capabilities .ensures)))
 
 pub advertise-spec : {M : Type 1} → statement M
 advertise-spec =

@@ -1,7 +1,8 @@
+use Rattle.session.specs.Session.{sessionKeeps}
 use Rattle.codec.proofs.Laws.{failed, passed}
 use Rattle.session.specs.Technology.{names}
-use Rattle.session.specs.Rules.{message}
-use Rattle.session.proofs.Steps.{not-valid, not-read, a-request, a-configuration, a-stop, another, gave-out}
+use Rattle.session.specs.Rules.{message, giveOut}
+use Rattle.session.proofs.Steps.{not-valid, not-read, a-request, a-configuration, a-stop, another, settled}
 use borrow.Author.Needs.{needs}
 use Rattle.session.proofs.calls.message.Statement.{statement}
 use Rattle.session.proofs.calls.message.Tie as tie
@@ -52,7 +53,7 @@ same-length : tie.Need-same-length
 same-length c = search needs
 
 returns-3 : tie.Need-returns-3
-returns-3 c = rw (c .given-out .ensures) (a-request (c .before .before .before .before .before .before .before .before .before .before .before .before .before .args .s) (c .before .before .before .before .before .before .before .before .before .before .before .before .before .args .octets .now) (c .before .before .before .before .before .before .before .before .before .before .before .before .before .args .out .now) (passed (c .before .before .before .before .before .before .before .before .before .before .valid-profile .ensures) (c .before .before .before .before .before .before .before .before .before .if1 .left)) (c .before .before .before .before .before .before .before .before .read-for-tag .ensures) (c .before .before .before .before .before .before .if2 .left) (c .before .before .before .before .before .match .keys1) (gave-out (c .before .before .before .before .before .before .before .before .before .before .before .before .before .args .s) (names (c .before .before .before .before .before .before .before .before .read-for-tag .result .set)) (c .before .before .before .deliver-capabilities .ensures)))
+returns-3 c = rw (c .given-out .ensures) (a-request (c .before .before .before .before .before .before .before .before .before .before .before .before .before .args .s) (c .before .before .before .before .before .before .before .before .before .before .before .before .before .args .octets .now) (c .before .before .before .before .before .before .before .before .before .before .before .before .before .args .out .now) (passed (c .before .before .before .before .before .before .before .before .before .before .valid-profile .ensures) (c .before .before .before .before .before .before .before .before .before .if1 .left)) (c .before .before .before .before .before .before .before .before .read-for-tag .ensures) (c .before .before .before .before .before .before .if2 .left) (c .before .before .before .before .before .match .keys1) (settled (c .before .before .before .before .before .before .before .before .before .before .before .before .before .args .s) (giveOut sessionKeeps (c .before .before .before .before .before .before .before .before .before .before .before .before .before .args .s .profile) (names (c .before .before .before .before .before .before .before .before .read-for-tag .result .set)) (c .before .before .before .before .before .before .before .before .before .before .before .before .before .args .s)) (c .before .before .before .deliver-capabilities .ensures)))
 
 same-length-2 : tie.Need-same-length-2
 same-length-2 c = search needs

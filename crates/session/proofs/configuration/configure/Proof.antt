@@ -1,9 +1,9 @@
+use Prim.Native.Nat.{ℕ}
+use mathlib.Core.Bool.{cond}
 use lib.Dec.{eqb}
-use mathlib.Core.Path.{_∙_}
-use Rattle.codec.specs.declared.records.SetMessage.{SetMessage}
-use Rattle.session.specs.declared.state.Session.{Session}
-use Rattle.session.specs.Technology.{among, setOf}
-use Rattle.session.specs.Rules.{explicitReply, setBy, Served, configure}
+use mathlib.Core.Path.{ap, _∙_}
+use Rattle.session.specs.Technology.{among}
+use Rattle.session.specs.Rules.{setBy, configure}
 use Rattle.session.specs.Session.{sessionKeeps}
 use Rattle.session.proofs.SetLaws.{set-below}
 use Rattle.session.proofs.Steps.{settled, put-if, none-either}
@@ -20,18 +20,6 @@ use Rattle.session.proofs.configuration.sets_uwb.Reads as sets-uwb-read
 use Rattle.session.proofs.replies.deliver.Reads as deliver-reads
 use Rattle.session.proofs.sets.set_of.Reads as set-of-reads
 use Rattle.session.proofs.sets.worth.Reads as worth-reads
-
--- what the call gives where its reply fits
-abbrev served : tie.Start → Served Session
-served c =
-    let s = c .args .s in
-    let f = setBy sessionKeeps (s .profile) (c .args .set) (c .args .c) s in
-    record {
-      state = sessionKeeps .put f (c .args .c) s;
-      reply = explicitReply (s .profile .replies) SetMessage.ConfigurationResponse (setOf f);
-      set = setOf f;
-      stopped = 0;
-    }
 
 sets-uwb-requires : tie.Need-sets-uwb-requires
 sets-uwb-requires c κs = search needs
@@ -61,13 +49,12 @@ same-length : tie.Need-same-length
 same-length c = search needs
 
 returns : tie.Need-returns
-unfolding configure
 returns c = let s = c .before .before .before .before .before .before .before .before .before .before .before .before .before .args .s in
     let f = setBy sessionKeeps (s .profile) (c .before .before .before .before .before .before .before .before .before .before .before .before .before .args .set) (c .before .before .before .before .before .before .before .before .before .before .before .before .before .args .c) s in
     let z = eqb (c .before .before .before .before .before .deliver .result .refusal) 0 in
     let k = rw (c .before .before .before .before .before .before .before .before .before .before .before .sets-uwb .ensures, c .before .before .before .before .before .before .before .before .before .before .sets-cs .ensures, c .before .before .before .before .before .before .before .before .before .sets-nan .ensures, c .before .before .before .before .before .before .before .before .sets-rssi .ensures) at (c .before .before .before .before .before .before .before .set-of .ensures) in
     let q = rw (c .before .before .before .before .before .before .before .before .before .before .before .sets-uwb .ensures, c .before .before .before .before .before .before .before .before .before .sets-nan .ensures, c .before .before .before .before .before .before .before .before .sets-rssi .ensures) at (c .before .configured .ensures) ∙ put-if f s (c .before .before .before .before .before .before .before .before .before .before .before .before .before .args .c) z in
-    rw (c .worth .ensures .0, k, q) (rw (none-either z) at (settled s (served (c .before .before .before .before .before .before .before .before .before .before .before .before .before)) (rw k at (c .before .before .before .before .before .deliver .ensures))))
+    rw (c .worth .ensures .0 ∙ ap (λ (n : ℕ). cond z n 0) k, q) (rw (none-either z) at (settled s (configure sessionKeeps (s .profile) (c .before .before .before .before .before .before .before .before .before .before .before .before .before .args .set) (c .before .before .before .before .before .before .before .before .before .before .before .before .before .args .c) s) (rw k at (c .before .before .before .before .before .deliver .ensures))))
 
 pub configure-spec : {M : Type 1} → statement M
 configure-spec =

@@ -1,9 +1,8 @@
+use Prim.Native.Nat.{ℕ}
+use mathlib.Core.Bool.{cond}
 use lib.Dec.{eqb}
-use mathlib.Core.Path.{_∙_}
-use Rattle.codec.specs.declared.records.SetMessage.{SetMessage}
-use Rattle.session.specs.declared.state.Session.{Session}
-use Rattle.session.specs.Technology.{setOf}
-use Rattle.session.specs.Rules.{explicitReply, endedBy, Served, halt}
+use mathlib.Core.Path.{ap, _∙_}
+use Rattle.session.specs.Rules.{endedBy, halt}
 use Rattle.session.specs.Session.{rangingIn, sessionKeeps}
 use Rattle.session.proofs.SetLaws.{set-below}
 use Rattle.session.proofs.Steps.{ended-set, settled, stop-if, none-either}
@@ -17,18 +16,6 @@ use Rattle.session.proofs.replies.deliver.Reads as deliver-reads
 use Rattle.session.proofs.sets.set_of.Reads as set-of-reads
 use Rattle.session.proofs.sets.worth.Reads as worth-reads
 use Rattle.session.proofs.stop.halted.Reads as halted-reads
-
--- what the call gives where its reply fits
-abbrev served : tie.Start → Served Session
-served c =
-    let s = c .args .s in
-    let f = endedBy sessionKeeps (s .profile) (c .args .set) s in
-    record {
-      state = sessionKeeps .stop f s;
-      reply = explicitReply (s .profile .replies) SetMessage.StopResponse (setOf f);
-      set = 0;
-      stopped = setOf f;
-    }
 
 has-requires : tie.Need-has-requires
 has-requires c κs = search needs
@@ -55,13 +42,13 @@ same-length : tie.Need-same-length
 same-length c = search needs
 
 returns : tie.Need-returns
-unfolding halt endedBy rangingIn
+unfolding endedBy rangingIn
 returns c = let s = c .before .before .before .before .before .before .before .before .before .before .before .before .before .before .before .args .s in
     let f = endedBy sessionKeeps (s .profile) (c .before .before .before .before .before .before .before .before .before .before .before .before .before .before .before .args .set) s in
     let z = eqb (c .before .before .before .before .before .deliver .result .refusal) 0 in
     let k = rw (c .before .before .before .before .before .before .before .before .before .before .before .before .before .has .ensures, c .before .before .before .before .before .before .before .before .before .before .before .has2 .ensures, c .before .before .before .before .before .before .before .before .before .has3 .ensures) at (c .before .before .before .before .before .before .before .set-of .ensures) ∙ ended-set (s .profile) (c .before .before .before .before .before .before .before .before .before .before .before .before .before .before .before .args .set) s in
     let q = rw (c .before .before .before .before .before .before .before .before .before .before .before .before .before .has .ensures, c .before .before .before .before .before .before .before .before .before .before .before .has2 .ensures, c .before .before .before .before .before .before .before .before .before .has3 .ensures) at (c .before .halted .ensures) ∙ stop-if f s z in
-    rw (c .worth .ensures .0, k, q) (rw (none-either z) at (settled s (served (c .before .before .before .before .before .before .before .before .before .before .before .before .before .before .before)) (rw k at (c .before .before .before .before .before .deliver .ensures))))
+    rw (c .worth .ensures .0 ∙ ap (λ (n : ℕ). cond z n 0) k, q) (rw (none-either z) at (settled s (halt sessionKeeps (s .profile) (c .before .before .before .before .before .before .before .before .before .before .before .before .before .before .before .args .set) s) (rw k at (c .before .before .before .before .before .deliver .ensures))))
 
 pub halt-spec : {M : Type 1} → statement M
 halt-spec =
