@@ -11,7 +11,7 @@ use Rattle.codec.specs.Octets.{toLE, allZero}
 use Rattle.codec.specs.Layout.{Layout, number, octets, counted, test, spelled, Values, allowed, cleared, zeroed}
 use Rattle.codec.specs.Blocks.{uwbCapability, csCapability, nanCapability, rssiBlock, uwbConfiguration, csConfiguration, nanConfiguration}
 use Rattle.codec.specs.Technology.{bit}
-use Rattle.codec.specs.Records.{Column, capabilities, configurations, ofUwbCapability, ofCsCapability, ofNanCapability, ofRssi, ofConfiguration, blank, response, part, messageId, setRecord}
+use Rattle.codec.specs.Records.{Column, capabilities, configurations, ofUwbCapability, ofCsCapability, ofNanCapability, ofRssi, ofConfiguration, blank, response, only, messageId, setRecord}
 use Rattle.codec.specs.Message.{assigned}
 use Rattle.codec.specs.Valid.{validFields, setIn, validColumn, valid}
 use Rattle.codec.specs.NormalForm.{block, rising, columnBlocks, normal}
@@ -136,8 +136,8 @@ module _ (r : Record) where
   long-other h k = record { capability = λ e. absurd (h e); configuration = λ e. absurd (k e) }
 
 -- the blocks that a set names are those of what it leaves of a capability
-part-octets : (set : ℕ) (c : Capability) → columnOctets capabilities set (part set c) ≡ columnOctets capabilities set c
-part-octets set c = rw (
+only-octets : (set : ℕ) (c : Capability) → columnOctets capabilities set (only set c) ≡ columnOctets capabilities set c
+only-octets set c = rw (
   same uwbCapability 0 ofUwbCapability (c .uwb) (blank capabilities .uwb) (bit set 0),
   same csCapability 1 ofCsCapability (c .cs) (blank capabilities .cs) (bit set 1),
   same nanCapability 2 ofNanCapability (c .nan) (blank capabilities .nan) (bit set 2),
@@ -148,10 +148,10 @@ part-octets set c = rw (
     same L id of v zero true = refl
     same L id of v zero false = refl
 
-pub normal-response : (set : ℕ) (c : Capability) → normal (response set (part set c)) ≡ head 1 set ++ columnOctets capabilities set c
-normal-response set c = normal-capability (response set (part set c)) refl ∙ ap (λ (l : List ℕ). head 1 set ++ l) (part-octets set c)
+pub normal-response : (set : ℕ) (c : Capability) → normal (response set (only set c)) ≡ head 1 set ++ columnOctets capabilities set c
+normal-response set c = normal-capability (response set (only set c)) refl ∙ ap (λ (l : List ℕ). head 1 set ++ l) (only-octets set c)
 
-pub put-response : (set : ℕ) (c : Capability) {d e : List ℕ} {next : ℕ} → Put d 0 (head 1 set ++ columnOctets capabilities set c) e next → Put d 0 (normal (response set (part set c))) e next
+pub put-response : (set : ℕ) (c : Capability) {d e : List ℕ} {next : ℕ} → Put d 0 (head 1 set ++ columnOctets capabilities set c) e next → Put d 0 (normal (response set (only set c))) e next
 put-response set c p = rw (normal-response set c) p
 
 pub normal-set : (message : SetMessage) (set : ℕ) → normal (setRecord message set) ≡ head (messageId message) set

@@ -7,7 +7,7 @@ use Rattle.codec.specs.Octets.{allZero}
 use Rattle.codec.specs.Technology.{bit}
 use Rattle.codec.specs.Blocks.{uwbCapability, csCapability, nanCapability, rssiBlock}
 use Rattle.codec.specs.Message.{assigned}
-use Rattle.codec.specs.Records.{capabilities, configurations, blank, response, part, setRecord, ofUwbCapability, ofCsCapability, ofNanCapability, ofRssi}
+use Rattle.codec.specs.Records.{capabilities, configurations, blank, response, only, setRecord, ofUwbCapability, ofCsCapability, ofNanCapability, ofRssi}
 use Rattle.codec.specs.Valid.{validFields, setIn, validColumn, valid}
 use Rattle.codec.specs.declared.records.Capability.{Capability}
 use Rattle.codec.specs.declared.records.Record.{Record}
@@ -46,9 +46,9 @@ unfolding valid assigned
 response-valid set c = rw (blank-configurations, and-true (validColumn capabilities set c))
 
 -- fields that the set leaves out are zero, and any that it names of CS and RSSI are allowed
-pub part-valid : (set : ℕ) (c : Capability) → valid (response set (part set c)) ≡ (ltb set 16 && ((not (bit set 0) || validFields uwbCapability true (ofUwbCapability (c .uwb))) && (not (bit set 2) || validFields nanCapability true (ofNanCapability (c .nan)))))
+pub only-valid : (set : ℕ) (c : Capability) → valid (response set (only set c)) ≡ (ltb set 16 && ((not (bit set 0) || validFields uwbCapability true (ofUwbCapability (c .uwb))) && (not (bit set 2) || validFields nanCapability true (ofNanCapability (c .nan)))))
 unfolding validColumn allZero
-part-valid set c = response-valid set (part set c) ∙ rw (uwb (bit set 0), cs (bit set 1), nan (bit set 2), rssi (bit set 3), and-true (not (bit set 2) || validFields nanCapability true (ofNanCapability (c .nan))))
+only-valid set c = response-valid set (only set c) ∙ rw (uwb (bit set 0), cs (bit set 1), nan (bit set 2), rssi (bit set 3), and-true (not (bit set 2) || validFields nanCapability true (ofNanCapability (c .nan))))
   where
     uwb : (a : Bool) → validFields uwbCapability a (ofUwbCapability (cond a (c .uwb) (blank capabilities .uwb))) ≡ (not a || validFields uwbCapability true (ofUwbCapability (c .uwb)))
     uwb true = refl

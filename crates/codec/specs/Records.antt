@@ -135,8 +135,8 @@ abbrev pub response : ℕ → Capability → Record
 response set c = record { id = 1; set = set; capability = c; configuration = blank configurations }
 
 -- those that a set names, and all other fields zero
-abbrev pub part : ℕ → Capability → Capability
-part set c = record {
+abbrev pub only : ℕ → Capability → Capability
+only set c = record {
   uwb = cond (bit set 0) (c .uwb) (blank capabilities .uwb);
   cs = cond (bit set 1) (c .cs) (blank capabilities .cs);
   nan = cond (bit set 2) (c .nan) (blank capabilities .nan);

@@ -10,7 +10,7 @@ use crate::technology::set_in;
 use crate::uwb;
 ghost use mathlib.Core.Path.{_≡_};
 ghost use Rattle.codec.specs.Message.{assigned};
-ghost use Rattle.codec.specs.Records.{capabilities, configurations, response, part};
+ghost use Rattle.codec.specs.Records.{capabilities, configurations, response, only};
 ghost use Rattle.codec.specs.Valid.{validColumn, valid};
 
 fn assigned(id: u8) -> bool
@@ -51,8 +51,8 @@ pub fn valid_response(set: u16, c: Capability) -> bool
 }
 
 // Whether a Capability Response with those of these blocks that the set names is valid.
-pub(crate) fn valid_part(set: u16, c: Capability) -> bool
-    ensures { λ r. ⌜ r ≡ valid (response set (part set c)) ⌝ }
+pub(crate) fn valid_only(set: u16, c: Capability) -> bool
+    ensures { λ r. ⌜ r ≡ valid (response set (only set c)) ⌝ }
 {
     let uwb = !has(set, 0) | uwb::valid_capability(true, c.uwb);
     let nan = !has(set, 2) | nan::valid_capability(true, c.nan);

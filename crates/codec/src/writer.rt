@@ -15,11 +15,11 @@ use crate::rssi;
 use crate::technology::has;
 use crate::uwb;
 use crate::validity::valid;
-use crate::validity::valid_part;
+use crate::validity::valid_only;
 ghost use mathlib.Core.Path.{_≡_};
 ghost use Prim.Native.Nat.{_+_, _≤_};
 ghost use lib.ListN.{length};
-ghost use Rattle.codec.specs.Records.{capabilities, configurations, response, part, setRecord};
+ghost use Rattle.codec.specs.Records.{capabilities, configurations, response, only, setRecord};
 ghost use Rattle.codec.specs.NormalForm.{normal};
 ghost use Rattle.codec.specs.Writing.{Writes};
 ghost use Rattle.codec.specs.Puts.{Put, head, columnOctets, LongCapability, LongConfiguration, LongRecord, Fit};
@@ -139,9 +139,9 @@ pub fn write(value: Record, out: &mut [u8]) -> Written
 
 // Writes a Capability Response with those of these blocks that the set names, as `write` does.
 pub fn write_response(set: u16, c: Capability, out: &mut [u8]) -> Written
-    ensures { λ r. ⌜ Writes (response set (part set c)) (now (out .entry)) r (now (out .exit)) ⌝ }
+    ensures { λ r. ⌜ Writes (response set (only set c)) (now (out .entry)) r (now (out .exit)) ⌝ }
 {
-    if !valid_part(set, c) {
+    if !valid_only(set, c) {
         return refused(NOT_VALID);
     }
     let length = 4 + size_capability(set, c);

@@ -21,7 +21,7 @@ use Rattle.codec.specs.declared.records.TagReading.{TagReading}
 use Rattle.codec.specs.declared.records.SetMessage.{SetMessage}
 use Rattle.codec.specs.declared.records.Written.{Written}
 use Rattle.codec.proofs.Outcomes.{by-bool, and-true, no-zero}
-use Rattle.codec.proofs.ValidCases.{response-valid, part-valid, set-valid}
+use Rattle.codec.proofs.ValidCases.{response-valid, only-valid, set-valid}
 use Rattle.session.specs.declared.state.Profile.{Profile}
 use Rattle.session.specs.declared.state.Session.{Session}
 use Rattle.session.specs.declared.state.Step.{Step}
@@ -69,7 +69,7 @@ module _ (p : Profile) (wanted : Technology → Bool) (v : validProfile p ≡ tr
       let c = and-true (validFields csCapability (bit (p .set) 1) (ofCsCapability (k .cs))) _ (u .1) in
       let n = and-true (validFields nanCapability (bit (p .set) 2) (ofNanCapability (k .nan))) _ (c .1) in
       rw (
-        part-valid (setOf f) k,
+        only-valid (setOf f) k,
         lt-ltb (setOf f) 16 (set-below f),
         names-set f uwb,
         names-set f nan,

@@ -6,7 +6,7 @@ use mathlib.Core.Bool.{Bool, true, cond, not, _&&_}
 use lib.Dec.{leb, ltb, eqb}
 use lib.ListN.{length, drop}
 use Rattle.codec.specs.Refusal.{Checked, refuse, accept, demand, andThen, numberOf, notForTag, bufferTooShort}
-use Rattle.codec.specs.Records.{response, part, setRecord}
+use Rattle.codec.specs.Records.{response, only, setRecord}
 use Rattle.codec.specs.Message.{reading}
 use Rattle.codec.specs.Valid.{valid}
 use Rattle.codec.specs.NormalForm.{normal}
@@ -62,7 +62,7 @@ shows p wanted t = wanted t && names (p .set) t
 
 -- message 1 with the profile's own blocks
 abbrev pub capabilityReply : Profile → (Technology → Bool) → Record
-capabilityReply p wanted = response (setOf (shows p wanted)) (part (setOf (shows p wanted)) (p .capability))
+capabilityReply p wanted = response (setOf (shows p wanted)) (only (setOf (shows p wanted)) (p .capability))
 
 -- messages 3 and 7 are written with explicit replies on only
 abbrev pub explicitReply : ℕ → SetMessage → ℕ → Option Record

@@ -2,7 +2,7 @@ use Rattle.codec.proofs.Pieces.{put-response}
 use Rattle.codec.proofs.Pieces.{normal-response, not-valid, too-short, was-written}
 use Rattle.codec.proofs.Puts.{put-then}
 use Rattle.codec.proofs.Laws.{failed, passed}
-use Rattle.codec.specs.Records.{response, part}
+use Rattle.codec.specs.Records.{response, only}
 use native.Mathlib.Omega.{arith}
 use mathlib.Core.Path.{ap}
 use lib.ListN.{length}
@@ -10,14 +10,14 @@ use borrow.Author.Needs.{needs}
 use Rattle.codec.proofs.writer.write_response.Statement.{statement}
 use Rattle.codec.proofs.writer.write_response.Tie as tie
 
-valid-part-requires : tie.Need-valid-part-requires
-valid-part-requires c κs = search needs
+valid-only-requires : tie.Need-valid-only-requires
+valid-only-requires c κs = search needs
 
 refused-requires : tie.Need-refused-requires
 refused-requires c κs = search needs
 
 returns : tie.Need-returns
-returns c = rw (c .refused .ensures) (not-valid (response (c .before .before .before .before .args .set) (part (c .before .before .before .before .args .set) (c .before .before .before .before .args .c))) (c .before .before .before .before .args .out .now) (failed (c .before .before .valid-part .ensures) (c .before .if1 .taken)))
+returns c = rw (c .refused .ensures) (not-valid (response (c .before .before .before .before .args .set) (only (c .before .before .before .before .args .set) (c .before .before .before .before .args .c))) (c .before .before .before .before .args .out .now) (failed (c .before .before .valid-only .ensures) (c .before .if1 .taken)))
 
 size-capability-requires : tie.Need-size-capability-requires
 size-capability-requires c κs = search needs
@@ -29,9 +29,9 @@ refused-requires-2 : tie.Need-refused-requires-2
 refused-requires-2 c κs = search needs
 
 returns-2 : tie.Need-returns-2
-returns-2 c = let r = response (c .before .before .before .before .before .before .args .set) (part (c .before .before .before .before .before .before .args .set) (c .before .before .before .before .before .before .args .c)) in
+returns-2 c = let r = response (c .before .before .before .before .before .before .args .set) (only (c .before .before .before .before .before .before .args .set) (c .before .before .before .before .before .before .args .c)) in
     rw (c .refused2 .ensures)
-    (too-short r (c .before .before .before .before .before .before .args .out .now) (passed (c .before .before .before .before .valid-part .ensures) (c .before .before .before .if1 .left)) (omega (arith, ap length (normal-response (c .before .before .before .before .before .before .args .set) (c .before .before .before .before .before .before .args .c)), c .before .before .size-capability .ensures .0, c .before .if2 .taken)))
+    (too-short r (c .before .before .before .before .before .before .args .out .now) (passed (c .before .before .before .before .valid-only .ensures) (c .before .before .before .if1 .left)) (omega (arith, ap length (normal-response (c .before .before .before .before .before .before .args .set) (c .before .before .before .before .before .before .args .c)), c .before .before .size-capability .ensures .0, c .before .if2 .taken)))
 
 put-head-requires : tie.Need-put-head-requires
 put-head-requires c κs = search needs
@@ -43,16 +43,16 @@ same-length : tie.Need-same-length
 same-length c = search needs
 
 returns-3 : tie.Need-returns-3
-returns-3 c = let r = response (c .before .before .before .before .before .before .before .before .before .before .before .before .before .args .set) (part (c .before .before .before .before .before .before .before .before .before .before .before .before .before .args .set) (c .before .before .before .before .before .before .before .before .before .before .before .before .before .args .c)) in
+returns-3 c = let r = response (c .before .before .before .before .before .before .before .before .before .before .before .before .before .args .set) (only (c .before .before .before .before .before .before .before .before .before .before .before .before .before .args .set) (c .before .before .before .before .before .before .before .before .before .before .before .before .before .args .c)) in
     let k = ap length (normal-response (c .before .before .before .before .before .before .before .before .before .before .before .before .before .args .set) (c .before .before .before .before .before .before .before .before .before .before .before .before .before .args .c)) in
-    was-written r (c .before .before .before .before .before .before .before .before .before .before .before .before .before .args .out .now) (passed (c .before .before .before .before .before .before .before .before .before .before .before .valid-part .ensures) (c .before .before .before .before .before .before .before .before .before .before .if1 .left)) (omega (arith, k, c .before .before .before .before .before .before .before .before .before .size-capability .ensures .0, c .before .before .before .before .before .before .before .before .if2 .left)) _ (omega (arith, k, c .before .before .before .before .before .before .before .before .before .size-capability .ensures .0))
+    was-written r (c .before .before .before .before .before .before .before .before .before .before .before .before .before .args .out .now) (passed (c .before .before .before .before .before .before .before .before .before .before .before .valid-only .ensures) (c .before .before .before .before .before .before .before .before .before .before .if1 .left)) (omega (arith, k, c .before .before .before .before .before .before .before .before .before .size-capability .ensures .0, c .before .before .before .before .before .before .before .before .if2 .left)) _ (omega (arith, k, c .before .before .before .before .before .before .before .before .before .size-capability .ensures .0))
     (put-response (c .before .before .before .before .before .before .before .before .before .before .before .before .before .args .set) (c .before .before .before .before .before .before .before .before .before .before .before .before .before .args .c) (put-then (c .before .before .before .before .before .before .put-head .ensures) (c .before .before .put-capability .ensures)))
 
 pub write-response-spec : {M : Type 1} → statement M
 write-response-spec =
     tie.close
     (tie.spec
-    valid-part-requires
+    valid-only-requires
     refused-requires
     returns
     size-capability-requires

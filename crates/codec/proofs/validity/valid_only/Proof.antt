@@ -1,10 +1,10 @@
 use mathlib.Core.Path.{sym}
-use Rattle.codec.proofs.ValidCases.{part-valid}
+use Rattle.codec.proofs.ValidCases.{only-valid}
 use borrow.Author.Needs.{needs}
-use Rattle.codec.proofs.validity.valid_part.Statement.{statement}
-use Rattle.codec.proofs.validity.valid_part.Tie as tie
-use Rattle.codec.proofs.validity.valid_part.Reads as reads
-use Rattle.codec.proofs.validity.valid_part.Lts as lts
+use Rattle.codec.proofs.validity.valid_only.Statement.{statement}
+use Rattle.codec.proofs.validity.valid_only.Tie as tie
+use Rattle.codec.proofs.validity.valid_only.Reads as reads
+use Rattle.codec.proofs.validity.valid_only.Lts as lts
 use Rattle.codec.proofs.nan.valid_capability.Reads as nan-valid-capability-reads
 use Rattle.codec.proofs.technology.has.Reads as has-reads
 use Rattle.codec.proofs.uwb.valid_capability.Reads as uwb-valid-capability-reads
@@ -22,10 +22,10 @@ valid-capability-requires-2 : tie.Need-valid-capability-requires-2
 valid-capability-requires-2 c κs = search needs
 
 returns : tie.Need-returns
-returns c = rw (c .before .before .valid-capability .ensures, c .valid-capability2 .ensures, c .before .before .before .has .ensures, c .before .has2 .ensures) (sym (part-valid (c .before .before .before .before .args .set) (c .before .before .before .before .args .c)))
+returns c = rw (c .before .before .valid-capability .ensures, c .valid-capability2 .ensures, c .before .before .before .has .ensures, c .before .has2 .ensures) (sym (only-valid (c .before .before .before .before .args .set) (c .before .before .before .before .args .c)))
 
-pub valid-part-spec : {M : Type 1} → statement M
-valid-part-spec =
+pub valid-only-spec : {M : Type 1} → statement M
+valid-only-spec =
     tie.close
     (tie.spec
     has-requires
