@@ -3,7 +3,7 @@ use Prim.Native.Nat.{ℕ}
 use native.Mathlib.Omega.{arith}
 use mathlib.Core.Path.{_≡_, refl}
 use mathlib.Core.Bool.{Bool, true, false, _&&_, _||_}
-use Rattle.codec.specs.Refusal.{Refusal, tooLong, endsEarly, reservedId, wrongVersion, setsDiffer, blockTooSmall, wrongBlock, notAllowed, leftOver, notForTag, bufferTooShort, notValid, numberOf, Checked, refuse, accept, demand, andThen, numberIn}
+use Rattle.codec.specs.Refusal.{Refusal, tooLong, endsEarly, reservedId, wrongVersion, setsDiffer, blockTooSmall, wrongBlock, notAllowed, leftOver, notForTag, bufferTooShort, notValid, brokenRecord, numberOf, Checked, refuse, accept, demand, andThen, numberIn}
 
 pub by-bool : {C : Type 0} (t : Bool) → (t ≡ true → C) → (t ≡ false → C) → C
 by-bool true f g = f refl
@@ -34,6 +34,7 @@ no-zero leftOver e = omega arith
 no-zero notForTag e = omega arith
 no-zero bufferTooShort e = omega arith
 no-zero notValid e = omega arith
+no-zero brokenRecord e = omega arith
 
 module _ {A C : Type 0} where
   -- number 0 is given exactly where nothing is refused

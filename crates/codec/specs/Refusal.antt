@@ -27,6 +27,8 @@ pub data Refusal : Type 0 where
   bufferTooShort : Refusal
   -- a record to be written, or a profile, is not valid
   notValid : Refusal
+  -- a log record breaks its layout
+  brokenRecord : Refusal
 
 abbrev pub numberOf : Refusal → ℕ
 numberOf tooLong = 1
@@ -41,6 +43,7 @@ numberOf leftOver = 9
 numberOf notForTag = 10
 numberOf bufferTooShort = 11
 numberOf notValid = 12
+numberOf brokenRecord = 13
 
 -- what checks give: a refusal, or what was read
 pub data Checked (A : Type 0) : Type 0 where

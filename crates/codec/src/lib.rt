@@ -19,6 +19,7 @@ pub use cs::CsCapability;
 pub use cs::CsConfiguration;
 pub use nan::NanCapability;
 pub use nan::NanConfiguration;
+pub use octets::all_zero;
 pub use reader::read;
 pub use reader::read_for_tag;
 pub use records::Block;

@@ -89,7 +89,7 @@ pub(crate) fn name_at(s: &[u8], at: usize, n: usize) -> [u8; 64]
 }
 
 // Whether all octets are zero. It looks at every one, so that the machine code can take many at a time.
-pub(crate) fn all_zero(s: &[u8]) -> bool
+pub fn all_zero(s: &[u8]) -> bool
     ensures { λ r. ⌜ r ≡ allZero (now (s .entry)) ⌝ }
 {
     let mut all = true;

@@ -1,0 +1,38 @@
+-- Laws of numbers in decimal.
+use Prim.Native.Nat.{ℕ, zero, suc, _+_, _*_, _/_, _%_, _^_, _≤_, _<_}
+use native.Mathlib.Omega.{arith}
+use mathlib.Core.Path.{_≡_, refl, sym, ap, _∙_}
+use mathlib.Core.List.{List, [], _∷_, _++_}
+use mathlib.Core.Bool.{Bool, true, false, cond}
+use lib.Dec.{ltb}
+use lib.ListN.{length, length-append}
+use borrow.Author.Tests.{lt-ltb, le-ltb, ltb-true, ltb-false}
+use Rattle.codec.proofs.Outcomes.{by-bool}
+use Rattle.bench_log.specs.Text.{digits, decimal}
+
+-- any two bounds that a number keeps give the same digits
+same-digits : (a b n : ℕ) → n < a → n < b → digits a n ≡ digits b n
+unfolding digits
+same-digits zero b n h k = absurd (omega arith)
+same-digits (suc a) zero n h k = absurd (omega arith)
+same-digits (suc a) (suc b) n h k =
+    by-bool (ltb n 10) (λ e. rw e) λ e.
+    let l = ltb-false n 10 e in
+    rw (e, same-digits a b (n / 10) (omega arith) (omega arith))
+
+-- one digit, or the digits of a tenth and one more
+pub one-digit : (n : ℕ) → n < 10 → decimal n ≡ (48 + n) ∷ []
+unfolding decimal digits
+one-digit n h = let r : n % 10 ≡ n = omega arith in rw (lt-ltb n 10 h, r)
+
+pub more-digits : (n : ℕ) → 10 ≤ n → decimal n ≡ decimal (n / 10) ++ ((48 + n % 10) ∷ [])
+unfolding decimal digits
+more-digits n h = rw (le-ltb n 10 h, same-digits n (suc (n / 10)) (n / 10) (omega arith) (omega arith))
+
+-- a number below 10 ^ k has at most k digits
+pub few-digits : (k n : ℕ) → n < 10 ^ suc k → length (decimal n) ≤ suc k
+few-digits zero n h = rw (one-digit n (omega arith)) (omega arith)
+few-digits (suc k) n h =
+    by-bool (ltb n 10) (λ e. rw (one-digit n (ltb-true n 10 e)) (omega arith)) λ e.
+    let i = few-digits k (n / 10) (omega (arith, h)) in
+    rw (more-digits n (ltb-false n 10 e)) (simp length-append (omega arith))

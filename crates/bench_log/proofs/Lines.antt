@@ -1,0 +1,56 @@
+-- Laws of lines: how long they are.
+use Prim.Native.Nat.{ℕ, _+_, _^_, _≤_, _<_}
+use native.Mathlib.Omega.{arith}
+use mathlib.Core.Path.{_≡_}
+use mathlib.Core.List.{List}
+use borrow.Author.Tests.{le-leb, lt-leb, eq-eqb, ne-eqb}
+use lib.Dec.{leb, eqb}
+use lib.ListN.{length, length-append}
+use Rattle.codec.proofs.Outcomes.{by-bool}
+use Rattle.codec.specs.declared.records.Written.{Written}
+use Rattle.codec.specs.Puts.{over, Put}
+use Rattle.bench_log.specs.Text.{decimal}
+use Rattle.bench_log.specs.Listing.{letter, verdict, lastLine, LaysOut}
+use Rattle.bench_log.specs.declared.entry.Entry.{Entry}
+use Rattle.bench_log.specs.declared.totals.Totals.{Totals}
+use Rattle.bench_log.proofs.Decimals.{few-digits}
+
+pub last-line-length : (t : Totals) (tail : ℕ) → length (lastLine t tail)
+    ≡ 34 + length (decimal (t .records)) + length (decimal (t .accepted)) + length (decimal (t .refused)) + length (decimal tail)
+unfolding lastLine
+last-line-length t tail = simp length-append (omega arith)
+
+pub letter-length : (direction : ℕ) → length (letter direction) ≡ 3
+letter-length direction = by-bool (eqb direction 0) (λ z. rw z) (λ z. rw z)
+
+module _ (e : Entry) where
+  pub verdict-accepted : e .refusal ≡ 0 → length (verdict e) ≡ length (decimal (e .id)) + 1 + length (decimal (e .set))
+  verdict-accepted z = rw (eq-eqb _ _ z) (simp length-append (omega arith))
+
+  pub verdict-refused : (e .refusal ≡ 0 → ⊥) → length (verdict e) ≡ 8 + length (decimal (e .refusal))
+  verdict-refused z = rw (ne-eqb _ _ z) (simp length-append)
+
+pub verdict-length : (e : Entry) → e .refusal < 256 → e .id < 256 → e .set < 65536 → length (verdict e) ≤ 11
+verdict-length e r i s =
+    let a = few-digits 2 (e .refusal) (omega arith) in
+    let b = few-digits 2 (e .id) (omega arith) in
+    let c = few-digits 4 (e .set) (omega arith) in
+    by-bool (eqb (e .refusal) 0) (λ z. rw z (simp length-append (omega arith))) (λ z. rw z (simp length-append (omega arith)))
+
+-- a buffer that is too short, and one that is not
+pub lays-none : (w d : List ℕ) → length d < length w → LaysOut w d (record { refusal = 11; length = 0 }) d
+lays-none w d h = record { answers = rw (lt-leb _ _ h); leaves = rw (lt-leb _ _ h) }
+
+pub lays : {w d e : List ℕ} {n : ℕ} → Put d 0 w e n → LaysOut w d (record { refusal = 0; length = n }) e
+unfolding over
+lays {w} {d} {e} {n} p =
+    let z : 0 + length w ≡ length w = omega arith in
+    let t = le-leb (length w) (length d) (rw z at (p .room)) in
+    record { answers = rw (t, ← z, p .place); leaves = rw t (rw z at (p .wrote)) }
+
+-- the text lies within the buffer
+pub lays-within : {w d e : List ℕ} {a : Written} → LaysOut w d a e → a .length ≤ length e
+lays-within {w} {d} {e} {a} l =
+    by-bool (leb (length w) (length d))
+    (λ t. rw (rw t at (l .leaves), rw t at (l .answers)) (simp length-append (omega arith)))
+    (λ t. rw (rw t at (l .answers)) (omega arith))

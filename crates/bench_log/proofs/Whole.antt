@@ -1,0 +1,84 @@
+-- What any run of calls lays out, piece by piece, is the listing of the whole log.
+use Prim.Native.Nat.{ℕ, zero, suc, _+_, _*_, _/_, _%_, _^_, _≤_, _<_}
+use native.Mathlib.Omega.{arith}
+use native.Mathlib.Nat.{min-eq-left}
+use mathlib.Core.Path.{_≡_, refl, sym, ap, _∙_}
+use mathlib.Core.List.{List, [], _∷_, _++_, append-assoc, append-nil}
+use lib.Dec.{leb}
+use lib.ListN.{length, take, drop, length-append, length-drop}
+use lib.Seq.{take-at, take-append-le, drop-append-le, drop-append-add}
+use Rattle.codec.specs.Octets.{part}
+use Rattle.codec.proofs.Outcomes.{by-bool}
+use Rattle.codec.specs.declared.records.Written.{Written}
+use Rattle.bench_log.specs.LogRecord.{recordSize, entryOf}
+use Rattle.bench_log.specs.Totals.{totals, noRecords, oneMore, counted, count}
+use Rattle.bench_log.specs.Listing.{line, lastLine, recordsIn, wholeRecords, linesFrom, listing, linesAfter, lineLimit, taken, Lists, LaysOut, Run, piece, last}
+use Rattle.bench_log.specs.declared.totals.Totals.{Totals}
+use Rattle.bench_log.specs.declared.listing.Listed.{Listed}
+use Rattle.bench_log.proofs.Lists.{count-append, lines-append}
+use Rattle.bench_log.proofs.Counting.{counting}
+
+-- ---- the records of a log in two parts, the first of whole records
+
+records-length : (n : ℕ) (log : List ℕ) → length (recordsIn n log) ≡ n
+records-length zero log = refl
+records-length (suc n) log = simp length-append (omega (arith, records-length n log))
+
+records-first : (m : ℕ) (a b : List ℕ) → m * recordSize ≤ length a → recordsIn m (a ++ b) ≡ recordsIn m a
+records-first zero a b h = refl
+records-first (suc m) a b h =
+    let d : drop (m * recordSize) (a ++ b) ≡ drop (m * recordSize) a ++ b = drop-append-le (m * recordSize) a b (omega arith) in
+    let t : take recordSize (drop (m * recordSize) a ++ b) ≡ take recordSize (drop (m * recordSize) a) = take-append-le recordSize (drop (m * recordSize) a) b (simp length-drop (omega arith)) in
+    rw (records-first m a b (omega arith), d, t)
+
+records-append : (m k : ℕ) (a b : List ℕ) → length a ≡ m * recordSize → recordsIn (m + k) (a ++ b) ≡ recordsIn m a ++ recordsIn k b
+records-append m zero a b h = let z : m + 0 ≡ m = omega arith in rw (z, append-nil (recordsIn m a)) (records-first m a b (omega arith))
+records-append m (suc k) a b h =
+    let n : m + suc k ≡ suc (m + k) = omega arith in
+    let at : (m + k) * recordSize ≡ length a + k * recordSize = omega arith in
+    rw (n, records-append m k a b h, at, drop-append-add a b (k * recordSize)) (append-assoc (recordsIn m a) (recordsIn k b) _)
+
+whole-append : (a b : List ℕ) → length a % recordSize ≡ 0 → wholeRecords (a ++ b) ≡ wholeRecords a ++ wholeRecords b
+whole-append a b h =
+    let n : length (a ++ b) / recordSize ≡ length a / recordSize + length b / recordSize = simp length-append (omega arith) in
+    rw n (records-append (length a / recordSize) (length b / recordSize) a b (omega arith))
+
+-- ---- what one call lays out
+
+lines-laid : {p d e : List ℕ} {t : Totals} {r : Listed} → Lists p t d r e → length p / recordSize ≤ length d / lineLimit
+    → (take (r .length) e ≡ linesAfter t (wholeRecords p)) × (r .totals ≡ count t (wholeRecords p))
+lines-laid {p} {d} {e} {t} {r} l h =
+    let m = min-eq-left h in
+    let w = linesAfter t (taken p d) in
+    (rw (l .leaves, l .octets) (take-at w (drop (length w) d) (length w) refl ∙ rw m), rw m at (l .counts))
+
+line-laid : {w d e : List ℕ} {a : Written} → LaysOut w d a e → a .refusal ≡ 0 → take (a .length) e ≡ w
+line-laid {w} {d} {e} {a} l z =
+    by-bool (leb (length w) (length d))
+    (λ t. rw (rw t at (l .leaves), rw t at (l .answers)) (take-at w (drop (length w) d) (length w) refl))
+    (λ t. let q : a .refusal ≡ 11 = ap (λ (x : Written). x .refusal) (rw t at (l .answers)) in absurd (omega arith))
+
+-- ---- what is left of a log
+
+after : {t : Totals} {log text : List ℕ} → Run t log text
+    → text ≡ linesAfter t (wholeRecords log) ++ lastLine (count t (wholeRecords log)) (length log % recordSize)
+after (piece {t} {p} {rest} {text} l h k run) =
+    let x = lines-laid l h in
+    let n : length (p ++ rest) % recordSize ≡ length rest % recordSize = simp length-append (omega arith) in
+    rw (whole-append p rest k, lines-append t (wholeRecords p) (wholeRecords rest), count-append t (wholeRecords p) (wholeRecords rest), n, ← x .1, x .0)
+    (ap (λ (y : List ℕ). linesAfter t (wholeRecords p) ++ y) (after run) ∙ sym (append-assoc (linesAfter t (wholeRecords p)) _ _))
+after (last l h o z) = let x = lines-laid l h in rw (x .0, line-laid o z, x .1)
+
+-- ---- the whole log
+
+numbered : (t : Totals) (rs : List (List ℕ)) → t .records + length rs < 2 ^ 64 → linesAfter t rs ≡ linesFrom (t .records) rs
+unfolding counted
+numbered t [] h = refl
+numbered t (r ∷ rs) h =
+    let n : (t .records + 1) % 2 ^ 64 ≡ t .records + 1 = omega arith in
+    rw (numbered (counted t (entryOf r)) rs (omega arith), n)
+
+pub by-pieces : {log text : List ℕ} → Run noRecords log text → length log < recordSize * 2 ^ 64 → text ≡ listing log
+by-pieces {log} run h =
+    let n = records-length (length log / recordSize) log in
+    after run ∙ rw (numbered noRecords (wholeRecords log) (omega arith), counting (wholeRecords log) (omega arith))

@@ -1,0 +1,4 @@
+pub mod LogRecord
+pub mod Totals
+pub mod Text
+pub mod Listing

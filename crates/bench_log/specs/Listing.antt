@@ -1,0 +1,100 @@
+-- The listing of a log: a line for each record, and the last line.
+use Prim.Native.Nat.{ℕ, zero, suc, _+_, _*_, _/_, _%_, _≤_, min}
+use Prim.Native.String.{String}
+use mathlib.Core.Path.{_≡_}
+use mathlib.Core.List.{List, [], _∷_, _++_}
+use mathlib.Core.Bool.{cond}
+use lib.Dec.{leb, eqb}
+use lib.ListN.{length, take, drop}
+use Rattle.codec.specs.Octets.{part}
+use Rattle.codec.specs.Refusal.{Checked, accept, demand, bufferTooShort}
+use Rattle.codec.specs.Writing.{written, buffer}
+use Rattle.codec.specs.declared.records.Written.{Written}
+use Rattle.bench_log.specs.LogRecord.{recordSize, entryOf}
+use Rattle.bench_log.specs.Totals.{totals, counted, count}
+use Rattle.bench_log.specs.Text.{ascii, decimal}
+use Rattle.bench_log.specs.declared.entry.Entry.{Entry}
+use Rattle.bench_log.specs.declared.totals.Totals.{Totals}
+use Rattle.bench_log.specs.declared.listing.Listed.{Listed}
+
+-- ---- the text of a line
+
+-- `i` to the tag, `t` from it
+abbrev pub letter : ℕ → List ℕ
+letter direction = cond (eqb direction 0) (ascii " i ") (ascii " t ")
+
+-- a word and a number
+abbrev pub field : String → ℕ → List ℕ
+field word n = ascii word ++ decimal n
+
+-- ID and set, or the refusal's number
+abbrev pub verdict : Entry → List ℕ
+verdict e = cond (eqb (e .refusal) 0) (decimal (e .id) ++ field " " (e .set)) (field "refused " (e .refusal))
+
+unfoldable pub line : ℕ → Entry → List ℕ
+line n e = decimal n ++ (letter (e .direction) ++ (verdict e ++ ascii "\n"))
+
+-- `tail` is the number of octets of a partial last record
+unfoldable pub lastLine : Totals → ℕ → List ℕ
+lastLine t tail =
+    field "records " (t .records)
+    ++ (field " accepted " (t .accepted)
+    ++ (field " refused " (t .refused)
+    ++ (field " tail " tail
+    ++ ascii "\n")))
+
+-- ---- of a whole log
+
+-- the first n records, in order
+abbrev pub recordsIn : ℕ → List ℕ → List (List ℕ)
+recordsIn zero log = []
+recordsIn (suc n) log = recordsIn n log ++ (part (n * recordSize) recordSize log ∷ [])
+
+abbrev pub wholeRecords : List ℕ → List (List ℕ)
+wholeRecords log = recordsIn (length log / recordSize) log
+
+-- records with numbers from n on
+abbrev pub linesFrom : ℕ → List (List ℕ) → List ℕ
+linesFrom n [] = []
+linesFrom n (r ∷ rs) = line n (entryOf r) ++ linesFrom (n + 1) rs
+
+abbrev pub listing : List ℕ → List ℕ
+listing log = linesFrom 0 (wholeRecords log) ++ lastLine (totals (wholeRecords log)) (length log % recordSize)
+
+-- ---- piece by piece
+
+-- the lines of records that come after those that are counted
+abbrev pub linesAfter : Totals → List (List ℕ) → List ℕ
+linesAfter t [] = []
+linesAfter t (r ∷ rs) = line (t .records) (entryOf r) ++ linesAfter (counted t (entryOf r)) rs
+
+-- no line is longer
+abbrev pub lineLimit : ℕ
+lineLimit = 35
+
+-- the records of a piece that are listed: all, or as many as the buffer has room for
+abbrev pub taken : List ℕ → List ℕ → List (List ℕ)
+taken piece d = recordsIn (min (length piece / recordSize) (length d / lineLimit)) piece
+
+-- what listing a piece does: the totals afterwards, how many octets of the buffer are lines, and the buffer before and after
+pub record Lists (piece : List ℕ) (t : Totals) (d : List ℕ) (r : Listed) (e : List ℕ) : Type 0 where
+  pub counts : r .totals ≡ count t (taken piece d)
+  pub octets : r .length ≡ length (linesAfter t (taken piece d))
+  pub leaves : e ≡ linesAfter t (taken piece d) ++ drop (length (linesAfter t (taken piece d))) d
+
+-- text that is laid out in a buffer of n octets
+abbrev pub laidOut : List ℕ → ℕ → Checked (List ℕ)
+laidOut w n = demand (leb (length w) n) bufferTooShort (accept w)
+
+-- what laying it out does: the answer, and the buffer before and after
+pub record LaysOut (w d : List ℕ) (answer : Written) (e : List ℕ) : Type 0 where
+  pub answers : answer ≡ written (laidOut w (length d))
+  pub leaves : e ≡ buffer (laidOut w (length d)) d
+
+-- Calls that list what is left of a log, from some totals on, and what they lay out, in order: `list` on a piece of whole
+-- records, and then calls on the rest; or `list` on all that is left, and then `last_line`. Each call has room for its lines.
+pub data Run : Totals → List ℕ → List ℕ → Type 0 where
+  piece : {t : Totals} {p rest text d e : List ℕ} {r : Listed} → Lists p t d r e → length p / recordSize ≤ length d / lineLimit
+      → length p % recordSize ≡ 0 → Run (r .totals) rest text → Run t (p ++ rest) (take (r .length) e ++ text)
+  last : {t : Totals} {p d e f g : List ℕ} {r : Listed} {a : Written} → Lists p t d r e → length p / recordSize ≤ length d / lineLimit
+      → LaysOut (lastLine (r .totals) (length p % recordSize)) f a g → a .refusal ≡ 0 → Run t p (take (r .length) e ++ take (a .length) g)

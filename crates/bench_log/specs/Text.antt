@@ -1,0 +1,21 @@
+-- Text: ASCII, and numbers in decimal.
+use Prim.Native.Nat.{ℕ, zero, suc, _+_, _/_, _%_}
+use Prim.Native.Char.{code}
+use Prim.Native.String.{String}
+use Prim.Native.String.{[] as String·[], _∷_ as _String·∷_}
+use mathlib.Core.List.{List, [], _∷_, _++_}
+use mathlib.Core.Bool.{cond}
+use lib.Dec.{ltb}
+
+abbrev pub ascii : String → List ℕ
+ascii String·[] = []
+ascii (c String·∷ s) = code c ∷ ascii s
+
+-- the digits of a number, the highest first and none of them a leading zero, where it has at most so many
+unfoldable pub digits : ℕ → ℕ → List ℕ
+digits zero n = []
+digits (suc most) n = cond (ltb n 10) [] (digits most (n / 10)) ++ ((48 + n % 10) ∷ [])
+
+-- a number n has at most n + 1 digits
+unfoldable pub decimal : ℕ → List ℕ
+decimal n = digits (suc n) n

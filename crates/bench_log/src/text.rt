@@ -1,0 +1,46 @@
+// Text put into a lent buffer, one piece after another. Each function returns the place after what it wrote.
+ghost use mathlib.Core.Path.{_≡_};
+ghost use mathlib.Core.List.{[], _∷_};
+ghost use Prim.Native.Nat.{_+_, _≤_, _<_};
+ghost use lib.ListN.{length};
+ghost use Rattle.codec.specs.Puts.{Put};
+ghost use Rattle.bench_log.specs.Text.{decimal};
+
+pub(crate) fn put(out: &mut [u8], at: usize, x: u8) -> usize
+    requires { ⌜ at < length (now out) ⌝ }
+    ensures { λ r. ⌜ Put (now (out .entry)) at (x ∷ []) (now (out .exit)) r ⌝ }
+{
+    out[at] = x;
+    at + 1
+}
+
+pub(crate) fn put_text(out: &mut [u8], at: usize, text: &[u8]) -> usize
+    requires { ⌜ at + length (now text) ≤ length (now out) ⌝ }
+    ensures { λ r. ⌜ Put (now (out .entry)) at (now (text .entry)) (now (out .exit)) r ⌝ }
+{
+    let end = at + text.len();
+    bytes::copy(text, &mut out[at..end]);
+    end
+}
+
+// A number in decimal, without leading zeros.
+pub(crate) fn put_decimal(out: &mut [u8], at: usize, n: u64) -> usize
+    requires { ⌜ at + length (decimal n) ≤ length (now out) ⌝ }
+    ensures { λ r. ⌜ Put (now (out .entry)) at (decimal n) (now (out .exit)) r ⌝ }
+{
+    if n < 10 {
+        return put(out, at, b'0' + n as u8);
+    }
+    let last = put_decimal(out, at, n / 10);
+    put(out, last, b'0' + (n % 10) as u8)
+}
+
+// How many octets a number takes in decimal.
+pub(crate) fn decimal_length(n: u64) -> usize
+    ensures { λ r. ⌜ (r ≡ length (decimal n)) × (r ≤ 20) ⌝ }
+{
+    if n < 10 {
+        return 1;
+    }
+    decimal_length(n / 10) + 1
+}
