@@ -1,41 +1,66 @@
-//! Differential tests: every answer, record, buffer and session of the proved library against the second implementation.
+//! Differential tests: every answer, record, buffer, session and listing of the proved library and listing program against
+//! the second implementation.
 //!
-//!     compare [--seed N] [--random N] [--calls N] [--part messages|sessions]
+//!     compare [--seed N] [--random N] [--calls N] [--records N] [--part messages|sessions|logs]
 //!
 //! Messages: the corpus, the named messages, every shape with its changes, the writers, and N random mixtures (a million if
-//! not said). Sessions: lists of N calls altogether (a million if not said). The seed is printed; a difference is printed with
-//! the octets or the calls that show it, and the exit status is then 1. It is 3 if the lists of calls do not reach, again and
-//! again, all that they have to reach.
+//! not said). Sessions: lists of N calls altogether (a million if not said). Logs: many of them, and a long one with N records
+//! (300,000 if not said); the program that lists them is target/bin/list_log, or the file that RAYDULCIMER_LIST_LOG names.
+//!
+//! The seed is printed; a difference is printed with the octets or the calls that show it, and the exit status is then 1. It
+//! is 2 if the listing program is missing, and 3 if the lists of calls do not reach, again and again, all that they have to
+//! reach, or the logs do not reach it once.
 mod changes;
 mod checker;
 mod convert;
 mod corpus;
+mod counts;
 mod damage;
 mod fitted;
+mod lines;
+mod listings;
 mod lists;
+mod logs;
 mod mixtures;
 mod named;
 mod outcomes;
 mod profiles;
+mod program;
 mod random;
 mod reached;
 mod sessions;
 mod shapes;
 
 use checker::Checker;
+use program::Program;
 use random::Random;
+use std::fmt::Debug;
 use std::process::ExitCode;
 use std::time::{Instant, SystemTime, UNIX_EPOCH};
 
 /// Each outcome of the lists of calls has to be reached once in so many calls.
 const ONCE_IN: u64 = 10_000;
 
+#[derive(Clone, Copy, PartialEq)]
+enum Part {
+    Messages,
+    Sessions,
+    Logs,
+}
+
 struct Options {
     seed: u64,
     random: u64,
     calls: u64,
-    messages: bool,
-    sessions: bool,
+    records: usize,
+    /// The only part to run.
+    part: Option<Part>,
+}
+
+impl Options {
+    fn runs(&self, part: Part) -> bool {
+        self.part.is_none_or(|only| only == part)
+    }
 }
 
 fn options() -> Option<Options> {
@@ -44,8 +69,8 @@ fn options() -> Option<Options> {
         seed: now.as_nanos() as u64,
         random: 1_000_000,
         calls: 1_000_000,
-        messages: true,
-        sessions: true,
+        records: 300_000,
+        part: None,
     };
     let mut words = std::env::args().skip(1);
     while let Some(word) = words.next() {
@@ -54,16 +79,45 @@ fn options() -> Option<Options> {
             ("--seed", number) => options.seed = number.parse().ok()?,
             ("--random", number) => options.random = number.parse().ok()?,
             ("--calls", number) => options.calls = number.parse().ok()?,
-            ("--part", "messages") => options.sessions = false,
-            ("--part", "sessions") => options.messages = false,
+            ("--records", number) => options.records = number.parse().ok()?,
+            ("--part", "messages") => options.part = Some(Part::Messages),
+            ("--part", "sessions") => options.part = Some(Part::Sessions),
+            ("--part", "logs") => options.part = Some(Part::Logs),
             _ => return None,
         }
     }
     Some(options)
 }
 
-/// Reader, writer and block listing. Returns how many differences there were.
-fn messages(options: &Options) -> u64 {
+/// What a run found.
+#[derive(Default)]
+struct Found {
+    differences: u64,
+    /// How many outcomes were not reached often enough.
+    missing: usize,
+}
+
+impl Found {
+    /// Prints the outcomes that were reached less often than they have to be, unless a difference has kept them away.
+    fn new<Outcome: Debug>(differences: u64, rarest: &[(Outcome, u64)], least: u64) -> Self {
+        let missing = rarest.iter().filter(|(_, count)| *count < least);
+        for (outcome, count) in missing.clone().filter(|_| differences == 0) {
+            println!("REACHED {count} times: {outcome:?}");
+        }
+        Found {
+            differences,
+            missing: missing.count(),
+        }
+    }
+
+    fn add(&mut self, other: Found) {
+        self.differences += other.differences;
+        self.missing += other.missing;
+    }
+}
+
+/// Reader, writer and block listing.
+fn messages(options: &Options) -> Found {
     let start = Instant::now();
     let mut random = Random::new(options.seed);
     let mut checker = Checker::new();
@@ -81,18 +135,18 @@ fn messages(options: &Options) -> u64 {
         checker.differences,
         start.elapsed().as_secs_f64()
     );
-    checker.differences
+    Found {
+        differences: checker.differences,
+        missing: 0,
+    }
 }
 
-/// Lists of calls. Returns how many differences there were and how many outcomes were not reached often enough.
-fn sessions(options: &Options) -> (u64, usize) {
+/// Lists of calls.
+fn sessions(options: &Options) -> Found {
     let start = Instant::now();
     let sessions = sessions::run(options.seed, options.calls);
     let rarest = sessions.reached.rarest();
-    let missing = rarest.iter().filter(|(_, count)| *count < options.calls / ONCE_IN);
-    for (outcome, count) in missing.clone().filter(|_| sessions.differences == 0) {
-        println!("REACHED {count} times: {outcome:?}");
-    }
+    let found = Found::new(sessions.differences, &rarest, options.calls / ONCE_IN);
     println!(
         "lists {} calls {} accepted {} outcomes {} each at least {} times differences {} in {:.1} s",
         sessions.lists,
@@ -103,27 +157,60 @@ fn sessions(options: &Options) -> (u64, usize) {
         sessions.differences,
         start.elapsed().as_secs_f64()
     );
-    (sessions.differences, missing.count())
+    found
+}
+
+/// The listing program.
+fn logs(options: &Options, program: &Program) -> Result<Found, String> {
+    let start = Instant::now();
+    let listings = listings::run(program, options.seed, options.records).map_err(|error| error.to_string())?;
+    let rarest = listings.reached.rarest();
+    let found = Found::new(listings.differences, &rarest, 1);
+    println!(
+        "logs {} records {} accepted {} outcomes {} each at least {} times differences {} in {:.1} s",
+        listings.logs,
+        listings.records,
+        listings.accepted,
+        rarest.len(),
+        rarest[0].1,
+        listings.differences,
+        start.elapsed().as_secs_f64()
+    );
+    Ok(found)
+}
+
+/// The error says why the listing program could not run.
+fn run(options: &Options) -> Result<Found, String> {
+    let program = options.runs(Part::Logs).then(Program::find).transpose()?;
+    let mut found = Found::default();
+    if options.runs(Part::Messages) {
+        found.add(messages(options));
+    }
+    if options.runs(Part::Sessions) {
+        found.add(sessions(options));
+    }
+    if let Some(program) = program {
+        found.add(logs(options, &program)?);
+    }
+    Ok(found)
 }
 
 fn main() -> ExitCode {
     let Some(options) = options() else {
-        eprintln!("usage: compare [--seed N] [--random N] [--calls N] [--part messages|sessions]");
+        eprintln!("usage: compare [--seed N] [--random N] [--calls N] [--records N] [--part messages|sessions|logs]");
         return ExitCode::from(2);
     };
     println!("seed {}", options.seed);
-    let (mut differences, mut missing) = (0, 0);
-    if options.messages {
-        differences += messages(&options);
-    }
-    if options.sessions {
-        let (different, not_reached) = sessions(&options);
-        differences += different;
-        missing = not_reached;
-    }
-    match (differences, missing) {
-        (0, 0) => ExitCode::SUCCESS,
-        (0, _) => ExitCode::from(3),
-        _ => ExitCode::from(1),
+    match run(&options) {
+        Ok(Found {
+            differences: 0,
+            missing: 0,
+        }) => ExitCode::SUCCESS,
+        Ok(Found { differences: 0, .. }) => ExitCode::from(3),
+        Ok(_) => ExitCode::from(1),
+        Err(error) => {
+            eprintln!("compare: {error}");
+            ExitCode::from(2)
+        }
     }
 }

@@ -74,17 +74,22 @@ pub fn change_octets(random: &mut Random, message: &mut Vec<u8>) {
     }
 }
 
+/// A valid message with several changes at once, or with none.
+pub fn any_message(random: &mut Random) -> Vec<u8> {
+    let mut shape = any_shape(random);
+    for _ in 0..random.below(4) {
+        change_shape(random, &mut shape);
+    }
+    let mut message = shape.octets();
+    for _ in 0..random.below(3) {
+        change_octets(random, &mut message);
+    }
+    message
+}
+
 pub fn run(checker: &mut Checker, random: &mut Random, count: u64) {
     for number in 0..count {
-        let mut shape = any_shape(random);
-        for _ in 0..random.below(4) {
-            change_shape(random, &mut shape);
-        }
-        let mut message = shape.octets();
-        for _ in 0..random.below(3) {
-            change_octets(random, &mut message);
-        }
-        checker.message(&message);
+        checker.message(&any_message(random));
         if number % 16 == 0 {
             let length = random.below(301);
             checker.message(&random.octets(length));

@@ -1,11 +1,11 @@
 //! Counts what the lists of calls reach, so that the comparison of sessions cannot go blind.
+use crate::counts::Counts;
 use crate::fitted::Rule;
 use crate::lists::{Call, List};
 use crate::outcomes::Kind::{self, Advertisement, Configuration, Request, Stop};
 use crate::outcomes::Outcome::{self, *};
 use crate::outcomes::{due, RANGING};
 use raydulcimer::raw;
-use std::collections::HashMap;
 
 /// How far a list has come on the way to `SetAgainAfter`.
 #[derive(Clone, Copy, PartialEq)]
@@ -17,7 +17,7 @@ enum Way {
 }
 
 pub struct Reached {
-    counts: HashMap<Outcome, u64>,
+    counts: Counts<Outcome>,
     way: Way,
 }
 
@@ -98,23 +98,18 @@ impl Step<'_> {
 impl Reached {
     pub fn new() -> Self {
         Reached {
-            counts: due().into_iter().map(|outcome| (outcome, 0)).collect(),
+            counts: Counts::new(due()),
             way: Way::Begin,
         }
     }
 
     fn count(&mut self, outcome: Outcome) {
-        *self.counts.entry(outcome).or_insert(0) += 1;
+        self.counts.count(outcome);
     }
 
     /// The outcomes that are due and how often each was reached, the rarest first.
     pub fn rarest(&self) -> Vec<(Outcome, u64)> {
-        let mut all: Vec<_> = due()
-            .into_iter()
-            .map(|outcome| (outcome, self.counts[&outcome]))
-            .collect();
-        all.sort_by_key(|(_, count)| *count);
-        all
+        self.counts.rarest()
     }
 
     pub fn start(&mut self, list: &List, refused: bool) {

@@ -1,7 +1,7 @@
 //! The sample logs.
-use crate::bench::{to_tag, Bench};
+use crate::bench::Bench;
 use crate::phone::*;
-use second::{CAPABILITY_REQUEST, CONFIGURATION_RESPONSE, KNOWN, RSSI, STOP, UWB, VERSION};
+use second::{log_record, CAPABILITY_REQUEST, CONFIGURATION_RESPONSE, KNOWN, RSSI, STOP, TO_TAG, UWB, VERSION};
 
 /// A whole exchange by UWB, NAN and RSSI.
 pub fn exchange() -> Vec<u8> {
@@ -45,7 +45,7 @@ pub fn broken() -> Vec<u8> {
     let mut bench = Bench::new();
     let stop_all = stop(KNOWN);
     let change_rssi = configuration(&[rssi()]);
-    let broken_stop = |place, octet| changed(&to_tag(&stop_all), place, octet);
+    let broken_stop = |place, octet| changed(&log_record(TO_TAG, &stop_all), place, octet);
 
     bench.send(&request(1 << UWB | 1 << RSSI));
     bench.send(&configuration(&[nan("level"), rssi()]));
@@ -73,7 +73,7 @@ pub fn broken() -> Vec<u8> {
     bench.log.extend(broken_stop(259, 1));
     bench.send(&[VERSION, CONFIGURATION_RESPONSE, 0x0F, 0x00]);
     bench.send(&stop(1 << UWB | 1 << RSSI));
-    bench.log.extend(&to_tag(&stop_all)[..100]);
+    bench.log.extend(&log_record(TO_TAG, &stop_all)[..100]);
     bench.log
 }
 

@@ -1,13 +1,14 @@
-//! Writes the sample bench logs into a folder: `samples FOLDER`. What the tag sends in them is what the second
-//! implementation's session answers, with the profile of `examples/tag.c`.
+//! Writes the sample bench logs into a folder, each with its listing: `samples FOLDER`. What the tag sends in them is what
+//! the second implementation's session answers, with the profile of `examples/tag.c`; the listings are made by it too.
 mod bench;
 mod logs;
 mod phone;
 mod profile;
 
+use std::fs::{self, File};
 use std::path::Path;
 use std::process::ExitCode;
-use std::{env, fs, io};
+use std::{env, io};
 
 fn main() -> ExitCode {
     let words: Vec<_> = env::args_os().skip(1).collect();
@@ -26,7 +27,14 @@ fn main() -> ExitCode {
 
 fn write(folder: &Path) -> io::Result<()> {
     fs::create_dir_all(folder)?;
-    fs::write(folder.join("exchange.log"), logs::exchange())?;
-    fs::write(folder.join("newer_phone.log"), logs::newer_phone())?;
-    fs::write(folder.join("broken.log"), logs::broken())
+    let logs = [
+        ("exchange", logs::exchange()),
+        ("newer_phone", logs::newer_phone()),
+        ("broken", logs::broken()),
+    ];
+    for (name, log) in logs {
+        fs::write(folder.join(format!("{name}.log")), &log)?;
+        second::list(&log[..], File::create(folder.join(format!("{name}.txt")))?)?;
+    }
+    Ok(())
 }

@@ -24,7 +24,7 @@ pub fn blocks(message: &[u8]) -> impl Iterator<Item = Block> + '_ {
         [_, _, low, high, ..] => low.count_ones() + high.count_ones(),
         _ => 0,
     };
-    core::iter::from_fn(move || {
+    std::iter::from_fn(move || {
         left = left.checked_sub(1)?;
         let &[id, size, ..] = message.get(place..)? else {
             return None;
@@ -38,7 +38,6 @@ pub fn blocks(message: &[u8]) -> impl Iterator<Item = Block> + '_ {
 #[cfg(test)]
 mod tests {
     use super::*;
-    use std::vec::Vec;
 
     fn listed(message: &[u8]) -> Vec<(usize, u8, u8)> {
         blocks(message).map(|b| (b.place, b.id, b.size)).collect()

@@ -1,13 +1,11 @@
 //! Second, independent implementation of the ranging tag: reader, block listing
-//! and writer of the six messages of version 1 and the tag's session, written
-//! from the customer's papers alone.
-#![no_std]
+//! and writer of the six messages of version 1, the tag's session and the
+//! listing of a bench log, written from the customer's papers alone.
 #![forbid(unsafe_code)]
 
-#[cfg(test)]
-extern crate std;
-
 mod blocks;
+mod listing;
+mod log;
 mod reader;
 mod record;
 mod refusal;
@@ -16,6 +14,8 @@ mod valid;
 mod writer;
 
 pub use blocks::{blocks, Block};
+pub use listing::list;
+pub use log::*;
 pub use reader::read;
 pub use record::*;
 pub use refusal::Refusal;

@@ -239,7 +239,6 @@ impl<'a> Walk<'a> {
 mod tests {
     use super::*;
     use crate::writer::write;
-    use std::vec::Vec;
 
     /// Octets of a message in hex.
     fn hex(text: &str) -> Vec<u8> {

@@ -1,4 +1,5 @@
-//! The refusals of codec and session, with the numbers and words of the rules.
+//! The refusals of codec, session and listing, with the numbers and words of
+//! the rules.
 
 #[derive(Clone, Copy, PartialEq, Eq, Debug)]
 #[repr(u8)]
@@ -15,6 +16,7 @@ pub enum Refusal {
     NotForTag = 10,
     ShortBuffer = 11,
     NotValid = 12,
+    BrokenRecord = 13,
 }
 
 impl Refusal {
@@ -36,6 +38,7 @@ impl Refusal {
             Refusal::NotForTag => "a session is given message 1, 3 or 7",
             Refusal::ShortBuffer => "the lent buffer is shorter than what is to be written",
             Refusal::NotValid => "a record to be written, or a profile, is not valid",
+            Refusal::BrokenRecord => "a log record breaks its layout",
         }
     }
 }

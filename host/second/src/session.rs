@@ -221,7 +221,6 @@ fn has_bit(bits: u32, bit: u8) -> bool {
 mod tests {
     use super::*;
     use crate::writer::{tests as samples, write};
-    use std::vec::Vec;
 
     const UNTOUCHED: [u8; 64] = [0x55; 64];
 
