@@ -1,5 +1,4 @@
 // The listing: lines of records and the last line, laid out in a lent buffer.
-use codec::Written;
 use crate::entry::Entry;
 use crate::entry::RECORD_SIZE;
 use crate::entry::entry_of;
@@ -9,6 +8,7 @@ use crate::text::put_decimal;
 use crate::text::put_text;
 use crate::totals::Totals;
 use crate::totals::counted;
+use codec::Written;
 ghost use mathlib.Core.Path.{_≡_};
 ghost use mathlib.Core.List.{_++_};
 ghost use Prim.Native.Nat.{_+_, _≤_, min};
@@ -110,7 +110,8 @@ fn put_last_line(out: &mut [u8], totals: Totals, tail: u64) -> usize
 fn last_line_length(totals: Totals, tail: u64) -> usize
     ensures { λ r. ⌜ r ≡ length (lastLine totals tail) ⌝ }
 {
-    34 + decimal_length(totals.records)
+    34
+        + decimal_length(totals.records)
         + decimal_length(totals.accepted)
         + decimal_length(totals.refused)
         + decimal_length(tail)

@@ -25,9 +25,10 @@ same-length c = search needs
 returns : tie.Need-returns
 unfolding line
 returns c =
-    let a = c .before .before .before .before .before .before .before .before .before .before .before .before .before .before .before .before .before .args in
-    (put-then (c .before .before .before .before .before .before .before .before .before .before .before .before .before .before .put-decimal .ensures) (put-then (c .before .before .before .before .before .before .before .before .before .before .put-letter .ensures) (put-then (c .before .before .before .before .before .before .put-verdict .ensures) (c .before .before .put .ensures))),
-    omega (arith, few-digits 19 (a .number) (omega arith), letter-length (a .e .direction), verdict-length (a .e) (omega arith) (omega arith) (omega arith)))
+    let a = c .before .before .before .before .before .before .before .before .before .before .before .before .before .before .before .before .before .args in (
+      put-then (c .before .before .before .before .before .before .before .before .before .before .before .before .before .before .put-decimal .ensures) (put-then (c .before .before .before .before .before .before .before .before .before .before .put-letter .ensures) (put-then (c .before .before .before .before .before .before .put-verdict .ensures) (c .before .before .put .ensures))),
+      omega (arith, few-digits 19 (a .number) (omega arith), letter-length (a .e .direction), verdict-length (a .e) (omega arith) (omega arith) (omega arith)),
+    )
 
 pub put-line-spec : {M : Type 1} → statement M
 put-line-spec =
