@@ -1,14 +1,13 @@
 -- Laws of numbers in decimal.
-use Prim.Native.Nat.{ℕ, zero, suc, _+_, _*_, _/_, _%_, _^_, _≤_, _<_}
+use Prim.Native.Nat.{ℕ, zero, suc, _+_, _-_, _*_, _/_, _%_, _^_, _≤_, _<_}
 use native.Mathlib.Omega.{arith}
-use mathlib.Core.Path.{_≡_, refl, sym, ap, _∙_}
+use mathlib.Core.Path.{_≡_, refl}
 use mathlib.Core.List.{List, [], _∷_, _++_}
-use mathlib.Core.Bool.{Bool, true, false, cond}
 use lib.Dec.{ltb}
-use lib.ListN.{length, length-append}
+use lib.ListN.{length, getD, length-append, List·getD-append}
 use borrow.Author.Tests.{lt-ltb, le-ltb, ltb-true, ltb-false}
 use Rattle.codec.proofs.Outcomes.{by-bool}
-use Rattle.bench_log.specs.Text.{digits, decimal}
+use Rattle.bench_log.specs.Text.{digits, decimal, valueAfter}
 
 -- any two bounds that a number keeps give the same digits
 same-digits : (a b n : ℕ) → n < a → n < b → digits a n ≡ digits b n
@@ -36,3 +35,39 @@ few-digits (suc k) n h =
     by-bool (ltb n 10) (λ e. rw (one-digit n (ltb-true n 10 e)) (omega arith)) λ e.
     let i = few-digits k (n / 10) (omega (arith, h)) in
     rw (more-digits n (ltb-false n 10 e)) (simp length-append (omega arith))
+
+-- ---- the digits stand for the number, and only 0 begins with a zero
+
+value-append : (n : ℕ) (a b : List ℕ) → valueAfter n (a ++ b) ≡ valueAfter (valueAfter n a) b
+value-append n [] b = refl
+value-append n (d ∷ a) b = value-append (n * 10 + (d - 48)) a b
+
+value-digits : (most n : ℕ) → n < most → valueAfter 0 (digits most n) ≡ n
+unfolding digits
+value-digits zero n h = absurd (omega arith)
+value-digits (suc most) n h =
+    by-bool (ltb n 10) (λ e. let l = ltb-true n 10 e in rw e (omega arith)) λ e.
+    let l = ltb-false n 10 e in
+    rw (e, value-append 0 (digits most (n / 10)) ((48 + n % 10) ∷ []), value-digits most (n / 10) (omega arith)) (omega arith)
+
+some-digit : (most n : ℕ) → n < most → 0 < length (digits most n)
+unfolding digits
+some-digit zero n h = absurd (omega arith)
+some-digit (suc most) n h = simp length-append (omega arith)
+
+zero-first : (most n : ℕ) → n < most → getD (digits most n) 0 0 ≡ 48 → n ≡ 0
+unfolding digits
+zero-first zero n h z = absurd (omega arith)
+zero-first (suc most) n h z =
+    by-bool (ltb n 10) (λ e. let l = ltb-true n 10 e in let y = rw e at z in omega arith) λ e.
+    let l = ltb-false n 10 e in
+    let y = rw (e, List·getD-append (digits most (n / 10)) ((48 + n % 10) ∷ []) 0 0 (some-digit most (n / 10) (omega arith))) at z in
+    absurd (omega (arith, zero-first most (n / 10) (omega arith) y))
+
+pub decimal-value : (n : ℕ) → valueAfter 0 (decimal n) ≡ n
+unfolding decimal
+decimal-value n = value-digits (suc n) n (omega arith)
+
+pub no-leading-zero : (n : ℕ) → getD (decimal n) 0 0 ≡ 48 → n ≡ 0
+unfolding decimal
+no-leading-zero n = zero-first (suc n) n (omega arith)

@@ -1,7 +1,6 @@
 -- Laws of log records and their entries.
-use Prim.Native.Nat.{ℕ, _+_, _≤_}
-use native.Mathlib.Omega.{arith}
-use mathlib.Core.Path.{_≡_, refl, sym, ap, _∙_}
+use Prim.Native.Nat.{ℕ, _≤_}
+use mathlib.Core.Path.{_≡_}
 use mathlib.Core.List.{List}
 use mathlib.Core.Bool.{true, false}
 use lib.Dec.{leb, ltb, eqb}
@@ -12,7 +11,6 @@ use Rattle.codec.specs.Message.{messageLimit, reading}
 use Rattle.codec.specs.Records.{answer}
 use Rattle.codec.specs.declared.records.Reading.{Reading}
 use Rattle.bench_log.specs.LogRecord.{recordSize, lengthIn, messageIn, keepsLayout, saidOf, entryOf}
-use Rattle.bench_log.specs.declared.entry.Entry.{Entry}
 
 -- what a record that keeps the layout gives its reader
 pub record Kept (r : List ℕ) : Type 0 where

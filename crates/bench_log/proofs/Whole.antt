@@ -7,12 +7,11 @@ use mathlib.Core.List.{List, [], _∷_, _++_, append-assoc, append-nil}
 use lib.Dec.{leb}
 use lib.ListN.{length, take, drop, length-append, length-drop}
 use lib.Seq.{take-at, take-append-le, drop-append-le, drop-append-add}
-use Rattle.codec.specs.Octets.{part}
 use Rattle.codec.proofs.Outcomes.{by-bool}
 use Rattle.codec.specs.declared.records.Written.{Written}
 use Rattle.bench_log.specs.LogRecord.{recordSize, entryOf}
-use Rattle.bench_log.specs.Totals.{totals, noRecords, oneMore, counted, count}
-use Rattle.bench_log.specs.Listing.{line, lastLine, recordsIn, wholeRecords, linesFrom, listing, linesAfter, lineLimit, taken, Lists, LaysOut, Run, piece, last}
+use Rattle.bench_log.specs.Totals.{totals, noRecords, counted, count}
+use Rattle.bench_log.specs.Listing.{lastLine, recordsIn, wholeRecords, linesFrom, listing, linesAfter, lineLimit, taken, Lists, LaysOut, Run, piece, last}
 use Rattle.bench_log.specs.declared.totals.Totals.{Totals}
 use Rattle.bench_log.specs.declared.listing.Listed.{Listed}
 use Rattle.bench_log.proofs.Lists.{count-append, lines-append}

@@ -1,5 +1,5 @@
 -- Text: ASCII, and numbers in decimal.
-use Prim.Native.Nat.{ℕ, zero, suc, _+_, _/_, _%_}
+use Prim.Native.Nat.{ℕ, zero, suc, _+_, _-_, _*_, _/_, _%_}
 use Prim.Native.Char.{code}
 use Prim.Native.String.{String}
 use Prim.Native.String.{[] as String·[], _∷_ as _String·∷_}
@@ -19,3 +19,8 @@ digits (suc most) n = cond (ltb n 10) [] (digits most (n / 10)) ++ ((48 + n % 10
 -- a number n has at most n + 1 digits
 unfoldable pub decimal : ℕ → List ℕ
 decimal n = digits (suc n) n
+
+-- the number that digits stand for, after those of another
+abbrev pub valueAfter : ℕ → List ℕ → ℕ
+valueAfter n [] = n
+valueAfter n (d ∷ ds) = valueAfter (n * 10 + (d - 48)) ds

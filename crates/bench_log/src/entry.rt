@@ -1,12 +1,11 @@
 // Log records: their layout, and what an entry says of one.
+use codec::MESSAGE_LIMIT;
 ghost use mathlib.Core.Path.{_≡_};
 ghost use Prim.Native.Nat.{_+_, _*_};
 ghost use Rattle.bench_log.specs.LogRecord.{keepsLayout, entryOf};
 
 // A record is a head of four octets and room for the longest message.
-pub(crate) const RECORD_SIZE: usize = 260;
-
-const MESSAGE_LIMIT: usize = 256;
+pub const RECORD_SIZE: usize = 4 + MESSAGE_LIMIT;
 
 const BROKEN_RECORD: u8 = 13;
 

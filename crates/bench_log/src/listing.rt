@@ -18,7 +18,7 @@ ghost use Rattle.bench_log.specs.Text.{decimal};
 ghost use Rattle.bench_log.specs.Listing.{letter, verdict, line, lastLine, lineLimit, Lists, LaysOut};
 
 // No line of a record is longer.
-const LINE_LIMIT: usize = 35;
+pub const LINE_LIMIT: usize = 35;
 
 const BUFFER_TOO_SHORT: u8 = 11;
 

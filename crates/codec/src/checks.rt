@@ -18,7 +18,7 @@ ghost use Rattle.codec.specs.Message.{messageLimit, idOf, setOf, carries
 ghost use Rattle.codec.specs.Places.{Judged};
 
 // A message has at most so many octets.
-const MESSAGE_LIMIT: usize = 256;
+pub const MESSAGE_LIMIT: usize = 256;
 
 fn readable(version: u8, id: u8) -> bool
     ensures { λ r. ⌜ r ≡ readable version id ⌝ }

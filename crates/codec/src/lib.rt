@@ -15,6 +15,7 @@ mod walk;
 mod walker;
 mod writer;
 
+pub use checks::MESSAGE_LIMIT;
 pub use cs::CsCapability;
 pub use cs::CsConfiguration;
 pub use nan::NanCapability;

@@ -1,4 +1,6 @@
 // Lists a bench log: reads standard input to its end, and writes a line for each record and the last line.
+use bench_log::LINE_LIMIT;
+use bench_log::RECORD_SIZE;
 use bench_log::Totals;
 use libc::STDIN_FILENO;
 use libc::STDOUT_FILENO;
@@ -6,13 +8,13 @@ ghost use mathlib.Core.Path.{_≡_};
 ghost use Prim.Native.Nat.{_≤_};
 ghost use lib.ListN.{length};
 
-// The octets of a record.
-const RECORD_SIZE: usize = 260;
+// A piece of the log has so many records, some 64 KiB.
+const RECORDS: usize = 252;
 
-// Whole records, 252 of them, and room for their lines.
-const PIECE_SIZE: usize = 65520;
+const PIECE_SIZE: usize = RECORDS * RECORD_SIZE;
 
-const TEXT_SIZE: usize = 8820;
+// Room for the lines of a piece.
+const TEXT_SIZE: usize = RECORDS * LINE_LIMIT;
 
 // How many octets were read, fewer than the piece has where the log ends, and whether a read failed.
 struct Got {

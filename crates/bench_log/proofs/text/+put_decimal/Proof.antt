@@ -1,11 +1,10 @@
 use Rattle.codec.proofs.Puts.{put-then}
 use Rattle.bench_log.proofs.Decimals.{one-digit, more-digits}
-use Rattle.bench_log.specs.Text.{decimal}
 use borrow.Author.Needs.{needs}
 use lib.ListN.{length, length-append}
 use native.Mathlib.Omega.{arith}
-use mathlib.Core.Path.{_≡_, ap, _∙_}
-use Prim.Native.Nat.{ℕ, _+_, _/_, _<_}
+use mathlib.Core.Path.{ap}
+use Prim.Native.Nat.{ℕ, _<_}
 use borrow.Fn.Kinds.{In}
 use borrow.Fn.PlainCycle.{Measures, is, falls, and}
 use Rattle.bench_log.proofs.text.put_decimal.Reads as put-decimal
