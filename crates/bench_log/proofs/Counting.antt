@@ -11,7 +11,7 @@ use Rattle.codec.specs.Refusal.{Checked, refuse, accept}
 use Rattle.codec.specs.Records.{answer}
 use Rattle.codec.specs.declared.records.Record.{Record}
 use Rattle.codec.proofs.Outcomes.{by-bool, no-zero}
-use Rattle.bench_log.specs.LogRecord.{saidOf, entryOf}
+use Rattle.bench_log.specs.LogRecord.{readingOf, entryOf}
 use Rattle.bench_log.specs.Totals.{isAccepted, totals, noRecords, counted, count}
 use Rattle.bench_log.specs.declared.totals.Totals.{Totals}
 
@@ -20,9 +20,9 @@ by-zero : (c : Checked Record) → eqb (answer c .refusal) 0 ≡ isAccepted c
 by-zero (refuse x) = ne-eqb _ _ (no-zero x)
 by-zero (accept r) = refl
 
-zero-accepted : (r : List ℕ) → eqb (entryOf r .refusal) 0 ≡ isAccepted (saidOf r)
+zero-accepted : (r : List ℕ) → eqb (entryOf r .refusal) 0 ≡ isAccepted (readingOf r)
 unfolding entryOf
-zero-accepted r = by-zero (saidOf r)
+zero-accepted r = by-zero (readingOf r)
 
 abbrev plus : Totals → Totals → Totals
 plus t u = record { records = t .records + u .records; accepted = t .accepted + u .accepted; refused = t .refused + u .refused }
@@ -34,11 +34,11 @@ same a b c = λ i. record { records = a i; accepted = b i; refused = c i }
 abbrev oneOf : Bool → Totals → Totals
 oneOf y t = record { records = t .records + 1; accepted = t .accepted + cond y 1 0; refused = t .refused + cond (not y) 1 0 }
 
-counted-one : (t : Totals) (r : List ℕ) → t .records + 1 < 2 ^ 64 → t .accepted + 1 < 2 ^ 64 → t .refused + 1 < 2 ^ 64 → counted t (entryOf r) ≡ oneOf (isAccepted (saidOf r)) t
+counted-one : (t : Totals) (r : List ℕ) → t .records + 1 < 2 ^ 64 → t .accepted + 1 < 2 ^ 64 → t .refused + 1 < 2 ^ 64 → counted t (entryOf r) ≡ oneOf (isAccepted (readingOf r)) t
 unfolding counted
 counted-one t r a b c =
     rw (zero-accepted r)
-    (by-bool (isAccepted (saidOf r))
+    (by-bool (isAccepted (readingOf r))
     (λ y. rw y (same (omega arith) (omega arith) (omega arith)))
     (λ y. rw y (same (omega arith) (omega arith) (omega arith))))
 
@@ -47,7 +47,7 @@ counting-on : (t : Totals) (rs : List (List ℕ)) → t .records + length rs < 2
 counting-on t [] a b c = same (omega arith) (omega arith) (omega arith)
 counting-on t (r ∷ rs) a b c =
     rw (counted-one t r (omega arith) (omega arith) (omega arith))
-    (by-bool (isAccepted (saidOf r))
+    (by-bool (isAccepted (readingOf r))
     (λ y. rw y (counting-on (oneOf true t) rs (omega arith) (omega arith) (omega arith) ∙ same (omega arith) (omega arith) (omega arith)))
     (λ y. rw y (counting-on (oneOf false t) rs (omega arith) (omega arith) (omega arith) ∙ same (omega arith) (omega arith) (omega arith))))
 
@@ -57,4 +57,4 @@ counting rs h = counting-on noRecords rs (omega arith) (omega arith) (omega arit
 pub each-counted : (rs : List (List ℕ)) → totals rs .accepted + totals rs .refused ≡ totals rs .records
 each-counted [] = refl
 each-counted (r ∷ rs) =
-    by-bool (isAccepted (saidOf r)) (λ y. rw y (omega (arith, each-counted rs))) (λ y. rw y (omega (arith, each-counted rs)))
+    by-bool (isAccepted (readingOf r)) (λ y. rw y (omega (arith, each-counted rs))) (λ y. rw y (omega (arith, each-counted rs)))

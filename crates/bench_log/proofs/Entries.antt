@@ -10,7 +10,7 @@ use Rattle.codec.proofs.Outcomes.{and-true}
 use Rattle.codec.specs.Message.{messageLimit, reading}
 use Rattle.codec.specs.Records.{answer}
 use Rattle.codec.specs.declared.records.Reading.{Reading}
-use Rattle.bench_log.specs.LogRecord.{recordSize, lengthIn, messageIn, keepsLayout, saidOf, entryOf}
+use Rattle.bench_log.specs.LogRecord.{recordSize, lengthIn, messageIn, keepsLayout, readingOf, entryOf}
 
 -- what a record that keeps the layout gives its reader
 pub record Kept (r : List ℕ) : Type 0 where
@@ -27,10 +27,10 @@ kept r e =
     record { size = eqb-true _ _ (a .0); fits = leb-true _ _ (l .0) }
 
 pub entry-broken : (r : List ℕ) → keepsLayout r ≡ false → record { direction = 0; refusal = 13; id = 0; set = 0 } ≡ entryOf r
-unfolding entryOf saidOf
+unfolding entryOf readingOf
 entry-broken r e = rw e
 
 pub entry-read : (r : List ℕ) (a : Reading) → keepsLayout r ≡ true → a ≡ answer (reading (messageIn r))
     → record { direction = getD r 0 0; refusal = a .refusal; id = a .value .id; set = a .value .set } ≡ entryOf r
-unfolding entryOf saidOf
+unfolding entryOf readingOf
 entry-read r a e f = rw (e, f)

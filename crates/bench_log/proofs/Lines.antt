@@ -1,16 +1,18 @@
--- Laws of lines: how long they are.
-use Prim.Native.Nat.{ℕ, _+_, _≤_, _<_}
+-- Laws of lines: how long they are, and laying them out.
+use Prim.Native.Nat.{ℕ, _+_, _^_, _≤_, _<_}
 use native.Mathlib.Omega.{arith}
 use mathlib.Core.Path.{_≡_}
 use mathlib.Core.List.{List}
-use borrow.Author.Tests.{le-leb, lt-leb, eq-eqb, ne-eqb}
-use lib.Dec.{leb, eqb}
+use borrow.Author.Tests.{le-leb, lt-leb, eq-eqb, ne-eqb, eqb-true, eqb-false}
+use lib.Dec.{eqb}
 use lib.ListN.{length, length-append}
 use Rattle.codec.proofs.Outcomes.{by-bool}
 use Rattle.codec.specs.declared.records.Written.{Written}
+use Rattle.codec.specs.Refusal.{Checked, refuse, accept}
+use Rattle.codec.specs.Writing.{fitting, LaysOut}
 use Rattle.codec.specs.Puts.{over, Put}
 use Rattle.bench_log.specs.Text.{decimal}
-use Rattle.bench_log.specs.Listing.{letter, verdict, lastLine, LaysOut}
+use Rattle.bench_log.specs.Listing.{letter, verdict, lastLine, lineLimit}
 use Rattle.bench_log.specs.declared.entry.Entry.{Entry}
 use Rattle.bench_log.specs.declared.totals.Totals.{Totals}
 use Rattle.bench_log.proofs.Decimals.{few-digits}
@@ -20,7 +22,7 @@ pub last-line-length : (t : Totals) (tail : ℕ) → length (lastLine t tail)
 unfolding lastLine
 last-line-length t tail = simp length-append (omega arith)
 
-pub letter-length : (direction : ℕ) → length (letter direction) ≡ 3
+letter-length : (direction : ℕ) → length (letter direction) ≡ 3
 letter-length direction = by-bool (eqb direction 0) (λ z. rw z) (λ z. rw z)
 
 module _ (e : Entry) where
@@ -30,18 +32,25 @@ module _ (e : Entry) where
   pub verdict-refused : (e .refusal ≡ 0 → ⊥) → length (verdict e) ≡ 8 + length (decimal (e .refusal))
   verdict-refused z = rw (ne-eqb _ _ z) (simp length-append)
 
-pub verdict-length : (e : Entry) → e .refusal < 256 → e .id < 256 → e .set < 65536 → length (verdict e) ≤ 11
-verdict-length e r i s =
-    let a = few-digits 2 (e .refusal) (omega arith) in
-    let b = few-digits 2 (e .id) (omega arith) in
-    let c = few-digits 4 (e .set) (omega arith) in
-    by-bool (eqb (e .refusal) 0) (λ z. rw z (simp length-append (omega arith))) (λ z. rw z (simp length-append (omega arith)))
+-- the parts of a line fit the longest one
+pub line-limit : (n : ℕ) (e : Entry) → n < 2 ^ 64 → e .refusal < 256 → e .id < 256 → e .set < 65536
+    → (length (letter (e .direction)) ≡ 3) × (length (decimal n) + 3 + length (verdict e) + 1 ≤ lineLimit)
+line-limit n e f r i s =
+    let a = few-digits 19 n (omega arith) in
+    let b = few-digits 2 (e .refusal) (omega arith) in
+    let c = few-digits 2 (e .id) (omega arith) in
+    let d = few-digits 4 (e .set) (omega arith) in (
+      letter-length (e .direction),
+      by-bool (eqb (e .refusal) 0)
+          (λ z. let v = verdict-accepted e (eqb-true _ _ z) in omega arith)
+          (λ z. let v = verdict-refused e (eqb-false _ _ z) in omega arith),
+    )
 
 -- a buffer that is too short, and one that is not
-pub lays-none : (w d : List ℕ) → length d < length w → LaysOut w d (record { refusal = 11; length = 0 }) d
+pub lays-none : (w d : List ℕ) → length d < length w → LaysOut (fitting w (length d)) d (record { refusal = 11; length = 0 }) d
 lays-none w d h = record { answers = rw (lt-leb _ _ h); leaves = rw (lt-leb _ _ h) }
 
-pub lays : {w d e : List ℕ} {n : ℕ} → Put d 0 w e n → LaysOut w d (record { refusal = 0; length = n }) e
+pub lays : {w d e : List ℕ} {n : ℕ} → Put d 0 w e n → LaysOut (fitting w (length d)) d (record { refusal = 0; length = n }) e
 unfolding over
 lays {w} {d} {e} {n} p =
     let z : 0 + length w ≡ length w = omega arith in
@@ -49,8 +58,6 @@ lays {w} {d} {e} {n} p =
     record { answers = rw (t, ← z, p .place); leaves = rw t (rw z at (p .wrote)) }
 
 -- the text lies within the buffer
-pub lays-within : {w d e : List ℕ} {a : Written} → LaysOut w d a e → a .length ≤ length e
-lays-within {w} {d} {e} {a} l =
-    by-bool (leb (length w) (length d))
-    (λ t. rw (rw t at (l .leaves), rw t at (l .answers)) (simp length-append (omega arith)))
-    (λ t. rw (rw t at (l .answers)) (omega arith))
+pub lays-within : {o : Checked (List ℕ)} {d e : List ℕ} {a : Written} → LaysOut o d a e → a .length ≤ length e
+lays-within {o = refuse x} l = rw (l .answers) (omega arith)
+lays-within {o = accept w} l = rw (l .leaves, l .answers) (simp length-append (omega arith))

@@ -1,5 +1,5 @@
 -- Laws of listing piece by piece.
-use Prim.Native.Nat.{ℕ, _+_, _-_, _*_, _/_, _≤_, min}
+use Prim.Native.Nat.{ℕ, _+_, _-_, _*_, _≤_}
 use native.Mathlib.Omega.{arith}
 use native.Mathlib.Numerals.{add-one}
 use mathlib.Core.Path.{_≡_, refl, sym, ap, _∙_}
@@ -10,7 +10,7 @@ use Rattle.codec.specs.Octets.{part}
 use Rattle.codec.proofs.Puts.{put-then, put-last, put-none}
 use Rattle.bench_log.specs.LogRecord.{recordSize, entryOf}
 use Rattle.bench_log.specs.Totals.{counted, count}
-use Rattle.bench_log.specs.Listing.{line, recordsIn, linesAfter, lineLimit, taken, Lists}
+use Rattle.bench_log.specs.Listing.{line, recordsIn, linesAfter, lineLimit, listable, taken, Lists}
 use Rattle.bench_log.specs.declared.entry.Entry.{Entry}
 use Rattle.bench_log.specs.declared.listing.Listed.{Listed}
 use Rattle.bench_log.specs.declared.totals.Totals.{Totals}
@@ -25,17 +25,17 @@ lines-append t [] ys = refl
 lines-append t (x ∷ xs) ys = rw (lines-append (counted t (entryOf x)) xs ys) (sym (append-assoc (line (t .records) (entryOf x)) _ _))
 
 -- i records of a piece are listed: the totals, the buffer before and after, and how many of its octets are lines
-pub record Listing (piece : List ℕ) (t : Totals) (d : List ℕ) (i : ℕ) (u : Totals) (e : List ℕ) (n : ℕ) : Type 0 where
+pub record ListedSoFar (piece : List ℕ) (t : Totals) (d : List ℕ) (i : ℕ) (u : Totals) (e : List ℕ) (n : ℕ) : Type 0 where
   pub counts : u ≡ count t (recordsIn i piece)
   pub lines : Put d 0 (linesAfter t (recordsIn i piece)) e n
   pub short : n ≤ i * lineLimit
 
-pub none-listed : (piece : List ℕ) (t : Totals) (d : List ℕ) → Listing piece t d 0 t d 0
+pub none-listed : (piece : List ℕ) (t : Totals) (d : List ℕ) → ListedSoFar piece t d 0 t d 0
 none-listed piece t d = record { counts = refl; lines = put-none d 0 (omega arith); short = omega arith }
 
 module _ {piece : List ℕ} {t : Totals} {d : List ℕ} {i : ℕ} {u v : Totals} {e f : List ℕ} {n p : ℕ} (x : Entry) where
-  pub one-listed : Listing piece t d i u e n → x ≡ entryOf (part (i * recordSize) (i * recordSize + recordSize - i * recordSize) piece)
-      → v ≡ counted u x → Put e n (line (u .records) x) f p × (p ≤ n + lineLimit) → Listing piece t d (i + 1) v f p
+  pub one-listed : ListedSoFar piece t d i u e n → x ≡ entryOf (part (i * recordSize) (i * recordSize + recordSize - i * recordSize) piece)
+      → v ≡ counted u x → Put e n (line (u .records) x) f p × (p ≤ n + lineLimit) → ListedSoFar piece t d (i + 1) v f p
   one-listed l r c w =
       let s : i * recordSize + recordSize - i * recordSize ≡ recordSize = omega arith in
       let q : x ≡ entryOf (part (i * recordSize) recordSize piece) = rw s at r in
@@ -48,7 +48,7 @@ module _ {piece : List ℕ} {t : Totals} {d : List ℕ} {i : ℕ} {u v : Totals}
       }
 
 pub all-listed : {piece : List ℕ} {t : Totals} {d : List ℕ} {i : ℕ} {u : Totals} {e : List ℕ} {n : ℕ}
-    → i ≡ min (length piece / recordSize) (length d / lineLimit) → Listing piece t d i u e n → Lists piece t d (record { totals = u; length = n }) e
+    → i ≡ listable piece d → ListedSoFar piece t d i u e n → Lists piece t d (record { totals = u; length = n }) e
 unfolding over
 all-listed {piece} {t} {d} k l =
     let w = rw k at (l .lines) in

@@ -1,17 +1,18 @@
 -- What any run of calls lays out, piece by piece, is the listing of the whole log.
 use Prim.Native.Nat.{ℕ, zero, suc, _+_, _*_, _/_, _%_, _^_, _≤_, _<_}
 use native.Mathlib.Omega.{arith}
-use native.Mathlib.Nat.{min-eq-left}
+use native.Mathlib.Nat.{min-le-left}
 use mathlib.Core.Path.{_≡_, refl, sym, ap, _∙_}
 use mathlib.Core.List.{List, [], _∷_, _++_, append-assoc, append-nil}
 use lib.Dec.{leb}
-use lib.ListN.{length, take, drop, length-append, length-drop}
-use lib.Seq.{take-at, take-append-le, drop-append-le, drop-append-add}
+use lib.ListN.{length, take, drop, length-append, length-drop, take-append-drop}
+use lib.Seq.{length-take-le, take-at, take-append-le, drop-append-le, drop-append-add}
 use Rattle.codec.proofs.Outcomes.{by-bool}
+use Rattle.codec.specs.Writing.{fitting, LaysOut}
 use Rattle.codec.specs.declared.records.Written.{Written}
 use Rattle.bench_log.specs.LogRecord.{recordSize, entryOf}
-use Rattle.bench_log.specs.Totals.{totals, noRecords, counted, count}
-use Rattle.bench_log.specs.Listing.{lastLine, recordsIn, wholeRecords, linesFrom, listing, linesAfter, lineLimit, taken, Lists, LaysOut, Run, piece, last}
+use Rattle.bench_log.specs.Totals.{noRecords, counted, count}
+use Rattle.bench_log.specs.Listing.{lastLine, recordsIn, wholeRecords, linesFrom, listing, linesAfter, lineLimit, listable, taken, Lists, Run, piece, end}
 use Rattle.bench_log.specs.declared.totals.Totals.{Totals}
 use Rattle.bench_log.specs.declared.listing.Listed.{Listed}
 use Rattle.bench_log.proofs.Lists.{count-append, lines-append}
@@ -37,22 +38,30 @@ records-append m (suc k) a b h =
     let at : (m + k) * recordSize ≡ length a + k * recordSize = omega arith in
     rw (n, records-append m k a b h, at, drop-append-add a b (k * recordSize)) (append-assoc (recordsIn m a) (recordsIn k b) _)
 
-whole-append : (a b : List ℕ) → length a % recordSize ≡ 0 → wholeRecords (a ++ b) ≡ wholeRecords a ++ wholeRecords b
-whole-append a b h =
-    let n : length (a ++ b) / recordSize ≡ length a / recordSize + length b / recordSize = simp length-append (omega arith) in
-    rw n (records-append (length a / recordSize) (length b / recordSize) a b (omega arith))
+whole-append : (k : ℕ) (a b : List ℕ) → length a ≡ k * recordSize → wholeRecords (a ++ b) ≡ recordsIn k a ++ wholeRecords b
+whole-append k a b h =
+    let n : length (a ++ b) / recordSize ≡ k + length b / recordSize = simp length-append (omega arith) in
+    rw n (records-append k (length b / recordSize) a b h)
+
+-- what is left of a log after records of a piece
+left : (k : ℕ) (p rest : List ℕ) → k * recordSize ≤ length p
+    → wholeRecords (p ++ rest) ≡ recordsIn k p ++ wholeRecords (drop (k * recordSize) p ++ rest)
+left k p rest h =
+    let a = take (k * recordSize) p in
+    let b = drop (k * recordSize) p in
+    let l : length a ≡ k * recordSize = length-take-le (k * recordSize) p h in
+    let e : p ≡ a ++ b = sym (take-append-drop (k * recordSize) p) in
+    let f : recordsIn k p ≡ recordsIn k a = ap (recordsIn k) e ∙ records-first k a b (omega arith) in
+    let g : p ++ rest ≡ a ++ (b ++ rest) = ap (λ (x : List ℕ). x ++ rest) e ∙ append-assoc a b rest in
+    ap wholeRecords g ∙ whole-append k a (b ++ rest) l ∙ rw f
 
 -- ---- what one call lays out
 
-lines-laid : {p d e : List ℕ} {t : Totals} {r : Listed} → Lists p t d r e → length p / recordSize ≤ length d / lineLimit
-    → (take (r .length) e ≡ linesAfter t (wholeRecords p)) × (r .totals ≡ count t (wholeRecords p))
-lines-laid {p} {d} {e} {t} {r} l h =
-    let m = min-eq-left h in
-    let w = linesAfter t (taken p d) in
-    (rw (l .leaves, l .octets) (take-at w (drop (length w) d) (length w) refl ∙ rw m), rw m at (l .counts))
+lines-laid : {p d e : List ℕ} {t : Totals} {r : Listed} → Lists p t d r e → take (r .length) e ≡ linesAfter t (taken p d)
+lines-laid {p} {d} {e} {t} l = let w = linesAfter t (taken p d) in rw (l .leaves, l .octets) (take-at w (drop (length w) d) (length w) refl)
 
-line-laid : {w d e : List ℕ} {a : Written} → LaysOut w d a e → a .refusal ≡ 0 → take (a .length) e ≡ w
-line-laid {w} {d} {e} {a} l z =
+line-laid : {d e : List ℕ} {a : Written} (w : List ℕ) → LaysOut (fitting w (length d)) d a e → a .refusal ≡ 0 → take (a .length) e ≡ w
+line-laid {d} {e} {a} w l z =
     by-bool (leb (length w) (length d))
     (λ t. rw (rw t at (l .leaves), rw t at (l .answers)) (take-at w (drop (length w) d) (length w) refl))
     (λ t. let q : a .refusal ≡ 11 = ap (λ (x : Written). x .refusal) (rw t at (l .answers)) in absurd (omega arith))
@@ -61,12 +70,18 @@ line-laid {w} {d} {e} {a} l z =
 
 after : {t : Totals} {log text : List ℕ} → Run t log text
     → text ≡ linesAfter t (wholeRecords log) ++ lastLine (count t (wholeRecords log)) (length log % recordSize)
-after (piece {t} {p} {rest} {text} l h k run) =
-    let x = lines-laid l h in
-    let n : length (p ++ rest) % recordSize ≡ length rest % recordSize = simp length-append (omega arith) in
-    rw (whole-append p rest k, lines-append t (wholeRecords p) (wholeRecords rest), count-append t (wholeRecords p) (wholeRecords rest), n, ← x .1, x .0)
-    (ap (λ (y : List ℕ). linesAfter t (wholeRecords p) ++ y) (after run) ∙ sym (append-assoc (linesAfter t (wholeRecords p)) _ _))
-after (last l h o z) = let x = lines-laid l h in rw (x .0, line-laid o z, x .1)
+after (piece {t} {p} {text} {d} rest l run) =
+    let k = listable p d in
+    let x = taken p d in
+    let q = drop (k * recordSize) p ++ rest in
+    let h : k * recordSize ≤ length p = omega (arith, min-le-left (length p / recordSize) (length d / lineLimit)) in
+    let n : length (p ++ rest) % recordSize ≡ length q % recordSize = simp (length-append, length-drop) (omega arith) in
+    rw (left k p rest h, lines-append t x (wholeRecords q), count-append t x (wholeRecords q), n, ← l .counts, lines-laid l)
+    (ap (λ (y : List ℕ). linesAfter t x ++ y) (after run) ∙ sym (append-assoc (linesAfter t x) _ _))
+after (end {t} {tail} h o z) =
+    let n : length tail / recordSize ≡ 0 = omega arith in
+    let m : length tail % recordSize ≡ length tail = omega arith in
+    line-laid (lastLine t (length tail)) o z ∙ rw (n, m)
 
 -- ---- the whole log
 

@@ -1,14 +1,13 @@
 -- The listing of a log: a line for each record, and the last line.
-use Prim.Native.Nat.{ℕ, zero, suc, _+_, _*_, _/_, _%_, _≤_, min}
+use Prim.Native.Nat.{ℕ, zero, suc, _+_, _*_, _/_, _%_, _<_, min}
 use Prim.Native.String.{String}
 use mathlib.Core.Path.{_≡_}
 use mathlib.Core.List.{List, [], _∷_, _++_}
 use mathlib.Core.Bool.{cond}
-use lib.Dec.{leb, eqb}
+use lib.Dec.{eqb}
 use lib.ListN.{length, take, drop}
 use Rattle.codec.specs.Octets.{part}
-use Rattle.codec.specs.Refusal.{Checked, accept, demand, bufferTooShort}
-use Rattle.codec.specs.Writing.{written, buffer}
+use Rattle.codec.specs.Writing.{fitting, LaysOut}
 use Rattle.codec.specs.declared.records.Written.{Written}
 use Rattle.bench_log.specs.LogRecord.{recordSize, entryOf}
 use Rattle.bench_log.specs.Totals.{totals, counted, count}
@@ -19,7 +18,7 @@ use Rattle.bench_log.specs.declared.listing.Listed.{Listed}
 
 -- ---- the text of a line
 
--- `i` to the tag, `t` from it
+-- `i` to the tag, `t` from it, between spaces
 abbrev pub letter : ℕ → List ℕ
 letter direction = cond (eqb direction 0) (ascii " i ") (ascii " t ")
 
@@ -73,8 +72,11 @@ abbrev pub lineLimit : ℕ
 lineLimit = 35
 
 -- the records of a piece that are listed: all, or as many as the buffer has room for
+abbrev pub listable : List ℕ → List ℕ → ℕ
+listable piece d = min (length piece / recordSize) (length d / lineLimit)
+
 abbrev pub taken : List ℕ → List ℕ → List (List ℕ)
-taken piece d = recordsIn (min (length piece / recordSize) (length d / lineLimit)) piece
+taken piece d = recordsIn (listable piece d) piece
 
 -- what listing a piece does: the totals afterwards, how many octets of the buffer are lines, and the buffer before and after
 pub record Lists (piece : List ℕ) (t : Totals) (d : List ℕ) (r : Listed) (e : List ℕ) : Type 0 where
@@ -82,19 +84,10 @@ pub record Lists (piece : List ℕ) (t : Totals) (d : List ℕ) (r : Listed) (e 
   pub octets : r .length ≡ length (linesAfter t (taken piece d))
   pub leaves : e ≡ linesAfter t (taken piece d) ++ drop (length (linesAfter t (taken piece d))) d
 
--- text that is laid out in a buffer of n octets
-abbrev pub laidOut : List ℕ → ℕ → Checked (List ℕ)
-laidOut w n = demand (leb (length w) n) bufferTooShort (accept w)
-
--- what laying it out does: the answer, and the buffer before and after
-pub record LaysOut (w d : List ℕ) (answer : Written) (e : List ℕ) : Type 0 where
-  pub answers : answer ≡ written (laidOut w (length d))
-  pub leaves : e ≡ buffer (laidOut w (length d)) d
-
--- Calls that list what is left of a log, from some totals on, and what they lay out, in order: `list` on a piece of whole
--- records, and then calls on the rest; or `list` on all that is left, and then `last_line`. Each call has room for its lines.
+-- Calls that list what is left of a log, from some totals on, and what they lay out, in order: `list` on any piece of it, and
+-- then calls on what that left; or, where less than a record is left, `last_line` in a buffer that has room for it.
 pub data Run : Totals → List ℕ → List ℕ → Type 0 where
-  piece : {t : Totals} {p rest text d e : List ℕ} {r : Listed} → Lists p t d r e → length p / recordSize ≤ length d / lineLimit
-      → length p % recordSize ≡ 0 → Run (r .totals) rest text → Run t (p ++ rest) (take (r .length) e ++ text)
-  last : {t : Totals} {p d e f g : List ℕ} {r : Listed} {a : Written} → Lists p t d r e → length p / recordSize ≤ length d / lineLimit
-      → LaysOut (lastLine (r .totals) (length p % recordSize)) f a g → a .refusal ≡ 0 → Run t p (take (r .length) e ++ take (a .length) g)
+  piece : {t : Totals} {p text d e : List ℕ} {r : Listed} (rest : List ℕ) → Lists p t d r e
+      → Run (r .totals) (drop (listable p d * recordSize) p ++ rest) text → Run t (p ++ rest) (take (r .length) e ++ text)
+  end : {t : Totals} {tail d e : List ℕ} {a : Written} → length tail < recordSize → LaysOut (fitting (lastLine t (length tail)) (length d)) d a e
+      → a .refusal ≡ 0 → Run t tail (take (a .length) e)

@@ -32,8 +32,8 @@ keepsLayout r =
 
 -- ---- what is said of a record: 13 if it breaks the layout, and else what the reader says of its message
 
-unfoldable pub saidOf : List ℕ → Checked Record
-saidOf r = demand (keepsLayout r) brokenRecord (reading (messageIn r))
+unfoldable pub readingOf : List ℕ → Checked Record
+readingOf r = demand (keepsLayout r) brokenRecord (reading (messageIn r))
 
 -- a broken record is listed as one to the tag
 abbrev pub directionOf : List ℕ → ℕ
@@ -41,5 +41,5 @@ directionOf r = cond (keepsLayout r) (getD r 0 0) 0
 
 unfoldable pub entryOf : List ℕ → Entry
 entryOf r =
-    let a = answer (saidOf r) in
+    let a = answer (readingOf r) in
     record { direction = directionOf r; refusal = a .refusal; id = a .value .id; set = a .value .set }

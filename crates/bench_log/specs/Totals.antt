@@ -5,7 +5,7 @@ use mathlib.Core.Bool.{Bool, true, false, not, cond}
 use lib.Dec.{eqb}
 use lib.ListN.{length}
 use Rattle.codec.specs.Refusal.{Checked, refuse, accept}
-use Rattle.bench_log.specs.LogRecord.{saidOf, entryOf}
+use Rattle.bench_log.specs.LogRecord.{readingOf, entryOf}
 use Rattle.bench_log.specs.declared.entry.Entry.{Entry}
 use Rattle.bench_log.specs.declared.totals.Totals.{Totals}
 
@@ -23,8 +23,8 @@ howMany P (r ∷ rs) = cond (P r) 1 0 + howMany P rs
 abbrev pub totals : List (List ℕ) → Totals
 totals rs = record {
   records = length rs;
-  accepted = howMany (λ r. isAccepted (saidOf r)) rs;
-  refused = howMany (λ r. not (isAccepted (saidOf r))) rs;
+  accepted = howMany (λ r. isAccepted (readingOf r)) rs;
+  refused = howMany (λ r. not (isAccepted (readingOf r))) rs;
 }
 
 -- ---- record by record, with counters of 64 bits

@@ -1,13 +1,12 @@
 // Log records: their layout, and what an entry says of one.
 use codec::MESSAGE_LIMIT;
+use codec::refusal::BROKEN_RECORD;
 ghost use mathlib.Core.Path.{_≡_};
 ghost use Prim.Native.Nat.{_+_, _*_};
 ghost use Rattle.bench_log.specs.LogRecord.{keepsLayout, entryOf};
 
 // A record is a head of four octets and room for the longest message.
 pub const RECORD_SIZE: usize = 4 + MESSAGE_LIMIT;
-
-const BROKEN_RECORD: u8 = 13;
 
 // What is listed of a record: its direction, and its message's ID and set; or the number of its refusal, with ID and set 0.
 pub struct Entry {

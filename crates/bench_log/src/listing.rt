@@ -9,18 +9,18 @@ use crate::text::put_text;
 use crate::totals::Totals;
 use crate::totals::counted;
 use codec::Written;
+use codec::refusal::BUFFER_TOO_SHORT;
 ghost use mathlib.Core.Path.{_≡_};
 ghost use mathlib.Core.List.{_++_};
 ghost use Prim.Native.Nat.{_+_, _≤_, min};
 ghost use lib.ListN.{length};
 ghost use Rattle.codec.specs.Puts.{Put};
+ghost use Rattle.codec.specs.Writing.{fitting, LaysOut};
 ghost use Rattle.bench_log.specs.Text.{decimal};
-ghost use Rattle.bench_log.specs.Listing.{letter, verdict, line, lastLine, lineLimit, Lists, LaysOut};
+ghost use Rattle.bench_log.specs.Listing.{letter, verdict, line, lastLine, lineLimit, Lists};
 
-// No line of a record is longer.
+// No line of a record is longer: 20 digits, a letter between spaces, `refused 255` and the newline.
 pub const LINE_LIMIT: usize = 35;
-
-const BUFFER_TOO_SHORT: u8 = 11;
 
 // The totals after some records were listed, and how many octets of the buffer are their lines.
 pub struct Listed {
@@ -28,7 +28,7 @@ pub struct Listed {
     pub length: usize,
 }
 
-// `i` to the tag, `t` from it.
+// `i` to the tag, `t` from it, between spaces.
 fn put_letter(out: &mut [u8], at: usize, direction: u8) -> usize
     requires { ⌜ at + 3 ≤ length (now out) ⌝ }
     ensures { λ r. ⌜ Put (now (out .entry)) at (letter direction) (now (out .exit)) r ⌝ }
@@ -107,6 +107,7 @@ fn put_last_line(out: &mut [u8], totals: Totals, tail: u64) -> usize
     put(out, end, b'\n')
 }
 
+// Its words and the newline take 34 octets.
 fn last_line_length(totals: Totals, tail: u64) -> usize
     ensures { λ r. ⌜ r ≡ length (lastLine totals tail) ⌝ }
 {
@@ -119,7 +120,7 @@ fn last_line_length(totals: Totals, tail: u64) -> usize
 
 // Lays out the last line of a listing, where a partial last record has `tail` octets.
 pub fn last_line(totals: Totals, tail: u64, out: &mut [u8]) -> Written
-    ensures { λ r. ⌜ LaysOut (lastLine totals tail) (now (out .entry)) r (now (out .exit)) ⌝ }
+    ensures { λ r. ⌜ LaysOut (fitting (lastLine totals tail) (length (now (out .entry)))) (now (out .entry)) r (now (out .exit)) ⌝ }
 {
     if out.len() < last_line_length(totals, tail) {
         return Written {

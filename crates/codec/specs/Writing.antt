@@ -10,12 +10,13 @@ use Rattle.codec.specs.NormalForm.{normal}
 use Rattle.codec.specs.declared.records.Record.{Record}
 use Rattle.codec.specs.declared.records.Written.{Written}
 
+-- octets for a buffer of so many
+abbrev pub fitting : List ℕ → ℕ → Checked (List ℕ)
+fitting w n = demand (leb (length w) n) bufferTooShort (accept w)
+
 -- what is to be written into a buffer of n octets: the record is tested first, then the buffer
 unfoldable pub writing : Record → ℕ → Checked (List ℕ)
-writing r n =
-    demand (valid r) notValid
-    (demand (leb (length (normal r)) n) bufferTooShort
-    (accept (normal r)))
+writing r n = demand (valid r) notValid (fitting (normal r) n)
 
 -- the answer: a refusal's number and 0 octets, or 0 and how many octets were written
 abbrev pub written : Checked (List ℕ) → Written
@@ -27,7 +28,11 @@ abbrev pub buffer : Checked (List ℕ) → List ℕ → List ℕ
 buffer (refuse x) d = d
 buffer (accept w) d = w ++ drop (length w) d
 
--- what the writer does: its answer, and the buffer before and after
-pub record Writes (r : Record) (d : List ℕ) (answer : Written) (e : List ℕ) : Type 0 where
-  pub answers : answer ≡ written (writing r (length d))
-  pub leaves : e ≡ buffer (writing r (length d)) d
+-- what a call that leads to `o` does: its answer, and the buffer before and after
+pub record LaysOut (o : Checked (List ℕ)) (d : List ℕ) (answer : Written) (e : List ℕ) : Type 0 where
+  pub answers : answer ≡ written o
+  pub leaves : e ≡ buffer o d
+
+-- what the writer does
+abbrev pub Writes : Record → List ℕ → Written → List ℕ → Type 0
+Writes r d answer e = LaysOut (writing r (length d)) d answer e

@@ -6,7 +6,7 @@ mod nan;
 mod octets;
 mod reader;
 mod records;
-mod refusal;
+pub mod refusal;
 mod rssi;
 mod technology;
 mod uwb;

@@ -13,7 +13,7 @@ const RECORDS: usize = 252;
 
 const PIECE_SIZE: usize = RECORDS * RECORD_SIZE;
 
-// Room for the lines of a piece.
+// Room for the lines of a piece, and more than the last line takes.
 const TEXT_SIZE: usize = RECORDS * LINE_LIMIT;
 
 // How many octets were read, fewer than the piece has where the log ends, and whether a read failed.

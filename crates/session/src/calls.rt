@@ -11,13 +11,11 @@ use crate::state::Step;
 use crate::state::fresh;
 use crate::stop::halt;
 use codec::Record;
+use codec::refusal::NOT_FOR_TAG;
+use codec::refusal::NOT_VALID;
 ghost use mathlib.Core.Path.{_≡_};
 ghost use Rattle.session.specs.Rules.{message as heard, advertisement};
 ghost use Rattle.session.specs.Session.{sessionCall, Gives, profileOf, started};
-
-const NOT_FOR_TAG: u8 = 10;
-
-const NOT_VALID: u8 = 12;
 
 // A session with an accepted profile, or 12 and a fresh session with an empty one, replies not said.
 pub fn start(profile: Record, replies: u8) -> Started

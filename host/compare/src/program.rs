@@ -31,7 +31,7 @@ impl Program {
                 log: env::temp_dir().join(format!("raydulcimer_{}.log", process::id())),
             }),
             Err(_) => Err(format!(
-                "{} is missing: build it with ./raydulcimer list, or set {VARIABLE}",
+                "{} is missing: build it with ./raydulcimer list samples/exchange.log, or set {VARIABLE}",
                 path.display()
             )),
         }

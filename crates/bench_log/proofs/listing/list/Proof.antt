@@ -1,4 +1,4 @@
-use Rattle.bench_log.proofs.Lists.{Listing, none-listed, one-listed, all-listed}
+use Rattle.bench_log.proofs.Lists.{ListedSoFar, none-listed, one-listed, all-listed}
 use native.Mathlib.Omega.{arith}
 use Prim.Native.Nat.{_-_, _≤_}
 use borrow.Author.Needs.{needs}
@@ -6,7 +6,7 @@ use Rattle.bench_log.proofs.listing.list.Statement.{statement}
 use Rattle.bench_log.proofs.listing.list.Tie as tie
 
 abbrev Inv-loop : tie.InvT-loop
-Inv-loop piece out₀ count totals₀ length₀ i₀ out totals length i = (i ≤ count) × Listing piece totals₀ out₀ i totals out length
+Inv-loop piece out₀ count totals₀ length₀ i₀ out totals length i = (i ≤ count) × ListedSoFar piece totals₀ out₀ i totals out length
 
 abbrev μ-loop : tie.MeasureT-loop
 μ-loop piece out₀ count totals₀ length₀ i₀ out totals length i = count - i

@@ -3,32 +3,23 @@ use borrow.Author.Tests.{eq-eqb, ne-eqb}
 use borrow.Author.Needs.{needs}
 use Rattle.bench_log.proofs.totals.counted.Statement.{statement}
 use Rattle.bench_log.proofs.totals.counted.Tie as tie
-use Rattle.bench_log.proofs.totals.counted.Reads as reads
-use Rattle.bench_log.proofs.totals.counted.Lts as lts
-use Rattle.bench_log.proofs.totals.one_more.Reads as one-more-reads
 
--- src/totals.rt:25:22
 one-more-requires : tie.Need-one-more-requires
 one-more-requires c κs = search needs
 
--- src/totals.rt:26:23
 one-more-requires-2 : tie.Need-one-more-requires-2
 one-more-requires-2 c κs = search needs
 
--- src/totals.rt:24:9
 returns : tie.Need-returns
 unfolding counted
 returns c = rw (eq-eqb _ _ (c .before .before .if1 .taken), c .before .one-more .ensures, c .one-more2 .ensures)
 
--- src/totals.rt:31:18
 one-more-requires-3 : tie.Need-one-more-requires-3
 one-more-requires-3 c κs = search needs
 
--- src/totals.rt:33:18
 one-more-requires-4 : tie.Need-one-more-requires-4
 one-more-requires-4 c κs = search needs
 
--- src/totals.rt:20:1
 returns-2 : tie.Need-returns-2
 unfolding counted
 returns-2 c = rw (ne-eqb _ _ (c .before .before .if1 .left), c .before .one-more3 .ensures, c .one-more4 .ensures)
