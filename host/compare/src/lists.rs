@@ -2,7 +2,7 @@
 use crate::convert::to_library;
 use crate::damage::any_record;
 use crate::fitted::{fitted, Fitted, Rule};
-use crate::mixtures::{change_octets, change_shape, decorate};
+use crate::mixtures::{changed, decorate};
 use crate::profiles::{self, Fault};
 use crate::random::Random;
 use crate::shapes::{response, Shape, Values};
@@ -202,19 +202,12 @@ fn not_for_tag(random: &mut Random) -> Shape {
 }
 
 fn damaged(random: &mut Random, profile: &Record) -> Vec<u8> {
-    let mut shape = match random.below(6) {
+    let shape = match random.below(6) {
         0 => stop(random),
         1 => not_for_tag(random),
         _ => configuration(random, profile).shape,
     };
-    for _ in 0..random.below(3) {
-        change_shape(random, &mut shape);
-    }
-    let mut message = shape.octets();
-    for _ in 0..random.below(3) {
-        change_octets(random, &mut message);
-    }
-    message
+    changed(random, shape, 3)
 }
 
 fn too_long(random: &mut Random) -> Vec<u8> {

@@ -42,7 +42,7 @@ pub fn decorate(random: &mut Random, shape: &mut Shape) -> Option<()> {
 }
 
 /// A change that keeps the message in parts.
-pub fn change_shape(random: &mut Random, shape: &mut Shape) -> Option<()> {
+fn change_shape(random: &mut Random, shape: &mut Shape) -> Option<()> {
     match random.below(7) {
         0 => shape.version = random.pick(&[0, 1, 2, 3, 255]),
         1..=3 => decorate(random, shape)?,
@@ -63,7 +63,7 @@ pub fn change_shape(random: &mut Random, shape: &mut Shape) -> Option<()> {
 }
 
 /// A change of the octets.
-pub fn change_octets(random: &mut Random, message: &mut Vec<u8>) {
+fn change_octets(random: &mut Random, message: &mut Vec<u8>) {
     let at = random.below(message.len() + 1);
     match random.below(4) {
         0 => message.truncate(at),
@@ -74,10 +74,9 @@ pub fn change_octets(random: &mut Random, message: &mut Vec<u8>) {
     }
 }
 
-/// A valid message with several changes at once, or with none.
-pub fn any_message(random: &mut Random) -> Vec<u8> {
-    let mut shape = any_shape(random);
-    for _ in 0..random.below(4) {
+/// The message of a shape, with fewer than so many changes of the shape and then a few of its octets.
+pub fn changed(random: &mut Random, mut shape: Shape, changes: usize) -> Vec<u8> {
+    for _ in 0..random.below(changes) {
         change_shape(random, &mut shape);
     }
     let mut message = shape.octets();
@@ -85,6 +84,12 @@ pub fn any_message(random: &mut Random) -> Vec<u8> {
         change_octets(random, &mut message);
     }
     message
+}
+
+/// A valid message with several changes at once, or with none.
+pub fn any_message(random: &mut Random) -> Vec<u8> {
+    let shape = any_shape(random);
+    changed(random, shape, 4)
 }
 
 pub fn run(checker: &mut Checker, random: &mut Random, count: u64) {
