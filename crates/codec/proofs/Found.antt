@@ -13,9 +13,9 @@ use Rattle.codec.specs.Octets.{Octets}
 use Rattle.codec.specs.Layout.{Layout, zeroes, value}
 use Rattle.codec.specs.Technology.{bit, known}
 use Rattle.codec.specs.Message.{messageLimit, versionOf, idOf, assigned, readable, setsAgree, blockCount, setOf, blocksAt, carriesBlocks, layoutsOf, blockAt, also, noId, blockFault, Walked, prepend, walk, endFault, blocksFrom, body, parse, fieldsIn, columnOf, recordOf, reading}
-use Rattle.codec.specs.Places.{Roomy, note, noted, blockOrZeros, Placed, recordAt, columnAt}
-use Rattle.codec.specs.Records.{blank, capabilities, configurations, answer, accepted, refused}
-use Rattle.codec.proofs.Outcomes.{by-bool, and-true, or-false, demanded, chained}
+use Rattle.codec.specs.Places.{Roomy, note, noted, Judged, blockOrZeros, Placed, recordAt, columnAt}
+use Rattle.codec.specs.Records.{blank, capabilities, configurations, withoutBlocks, answer, accepted, refused}
+use Rattle.codec.proofs.Outcomes.{by-bool, by-number, and-true, or-false, demanded, chained}
 use Rattle.codec.proofs.BlockCases.{no-fields}
 use Rattle.codec.proofs.Layouts.{block, block-fits, block-zeros, roomy}
 use Rattle.codec.proofs.WalkCases.{Sound, sound}
@@ -170,7 +170,7 @@ module _ (m : List ℕ) (o : Octets m) (blocks : List (List ℕ)) (e : parse m �
   kept-here id k = keeps m o id k (blockCount (idOf m) (setOf m)) (blocksAt (idOf m)) (record { blocks = blocks; end = p .end }) (λ z. omega (arith, start-four (eqb (idOf m) 2))) (p .walked)
 
   module _ (found : List ℕ) (f : carriesBlocks (idOf m) ≡ true → found ≡ noted blocks (blocksAt (idOf m)) (replicate 5 0)) where
-    pub placed : length found ≡ 5 → carriesBlocks (idOf m) ≡ true → Placed (layoutsOf (idOf m)) m found
+    placed : length found ≡ 5 → carriesBlocks (idOf m) ≡ true → Placed (layoutsOf (idOf m)) m found
     placed l c = record {
       whole = λ id k. rw (f c) (kept-here id k .whole);
       roomy = λ id k. rw (f c) (kept-here id k .roomy);
@@ -195,9 +195,29 @@ module _ (m : List ℕ) (o : Octets m) (blocks : List (List ℕ)) (e : parse m �
         (λ n. rw n) in
         λ i. record { id = idOf m; set = known (setOf m); capability = capability i; configuration = configuration i }
 
-    pub reads : accepted (recordAt m found) ≡ answer (reading m)
+    reads : accepted (recordAt m found) ≡ answer (reading m)
     unfolding reading
     reads = rw e (ap accepted record-found)
+
+-- what the places of a message say in which the order of checks finds no fault
+pub record Found (m found : List ℕ) : Type 0 where
+  pub four : 4 ≤ length m
+  pub placed : carriesBlocks (idOf m) ≡ true → Placed (layoutsOf (idOf m)) m found
+  pub reads : accepted (recordAt m found) ≡ answer (reading m)
+
+pub found-by : (m : List ℕ) → Octets m → {f : ℕ} {found : List ℕ} → Judged (carriesBlocks (idOf m)) (parse m) (blocksAt (idOf m)) (replicate 5 0) f found → f ≡ 0 → Found m found
+found-by m o {f} {found} j z =
+    by-number (parse m) (sym (j .number) ∙ z) λ blocks e.
+    let places : carriesBlocks (idOf m) ≡ true → found ≡ noted blocks (blocksAt (idOf m)) (replicate 5 0) = λ k. j .places k blocks e in
+    record {
+      four = four m o blocks e;
+      placed = placed m o blocks e found places (j .size);
+      reads = reads m o blocks e found places;
+    }
+
+-- a message without blocks
+pub reads-set : (m found : List ℕ) → (idOf m ≡ 1 → ⊥) → (idOf m ≡ 2 → ⊥) → accepted (withoutBlocks (idOf m) (known (setOf m))) ≡ accepted (recordAt m found)
+reads-set m found a b = rw (ne-eqb _ 1 a, ne-eqb _ 2 b)
 
 pub reads-refused : (m : List ℕ) (f : ℕ) → f ≡ numberIn (parse m) → (f ≡ 0 → ⊥) → refused f ≡ answer (reading m)
 unfolding reading

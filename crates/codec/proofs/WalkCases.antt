@@ -4,49 +4,130 @@ use native.Mathlib.Omega.{arith}
 use native.Mathlib.Numerals.{sub-one}
 use native.Mathlib.Nat.{add-zero}
 use mathlib.Core.Path.{_≡_, refl, sym, ap, _∙_}
-use mathlib.Core.Bool.{Bool, true, false, not, _&&_}
+use mathlib.Core.Bool.{Bool, true, false, not, _&&_, _||_}
 use mathlib.Core.List.{List}
-use lib.Dec.{leb}
+use lib.Dec.{leb, eqb}
 use lib.ListN.{length, getD, drop, set}
 use lib.Seq.{getD-take, getD-drop, getD-set-same}
-use borrow.Author.Tests.{le-leb, lt-leb, leb-true}
-use Rattle.codec.specs.Refusal.{Checked, refuse, accept, andThen, numberIn, endsEarly, wrongBlock, blockTooSmall}
+use borrow.Author.Tests.{le-leb, lt-leb, leb-true, leb-false}
+use Rattle.codec.specs.Refusal.{Checked, refuse, accept, demand, andThen, numberIn, endsEarly, wrongBlock, blockTooSmall}
 use Rattle.codec.specs.Octets.{Octets}
-use Rattle.codec.specs.Layout.{least, fault}
+use Rattle.codec.specs.Layout.{Layout, least, fault}
 use Rattle.codec.specs.Technology.{bit}
-use Rattle.codec.specs.Message.{idOf, setOf, layoutsOf, blockAt, also, blockFault, Walked, prepend, walk}
-use Rattle.codec.specs.Places.{note, noted, Finds}
+use Rattle.codec.specs.Message.{idOf, setOf, layoutsOf, blockAt, noId, also, blockFault, Walked, prepend, walk}
+use Rattle.codec.specs.Places.{sizeFault, fieldsFault, awaitedFault, Awaits, note, noted, Finds}
 use Rattle.codec.proofs.Laws.{part-length}
-use Rattle.codec.proofs.Outcomes.{by-number, and-true, demanded}
+use Rattle.codec.proofs.Outcomes.{by-bool, by-number, and-true, demanded, chained}
+use Rattle.codec.proofs.BlockCases.{no-layout}
 use Rattle.codec.proofs.Bits.{bit-under}
 use Rattle.codec.proofs.Layouts.{least-from}
+
+-- what is left of a message from a place on
+left-leb : (at size n : ℕ) → at ≤ n → leb size (n - at) ≡ leb (at + size) n
+left-leb at size n h = by-bool (leb size (n - at))
+    (λ y. let l : at + size ≤ n = omega (arith, leb-true size (n - at) y) in y ∙ sym (le-leb (at + size) n l))
+    (λ k. let l : n < at + size = omega (arith, leb-false size (n - at) k) in k ∙ sym (lt-leb (at + size) n l))
+
+abbrev ok : Checked (Unit {0})
+ok = accept tt
+
+in-turn : (enough whole : Bool) (fields : Checked (Unit {0}))
+    → (andThen (demand enough blockTooSmall (demand whole endsEarly ok)) λ _. fields) ≡ demand enough blockTooSmall (demand whole endsEarly fields)
+in-turn true true fields = refl
+in-turn true false fields = refl
+in-turn false whole fields = refl
+
+module _ (m : List ℕ) (at : ℕ) where
+  abbrev layoutAt : Layout
+  layoutAt = layoutsOf (idOf m) (getD m at 0)
+
+  abbrev pub sizeAt : Checked (Unit {0})
+  sizeAt = sizeFault (least layoutAt 2) (getD m (at + 1) 0) (length m - at)
+
+  -- what a size without a fault says
+  pub record Fits : Type 0 where
+    pub accepted : sizeAt ≡ ok
+    pub enough : least layoutAt 2 ≤ getD m (at + 1) 0
+    pub whole : getD m (at + 1) 0 ≤ length m - at
+
+  pub fits : sizeAt ≡ ok → Fits
+  fits a =
+      demanded (leb (least layoutAt 2) (getD m (at + 1) 0)) blockTooSmall _ tt a λ y₁ e₁.
+      demanded (leb (getD m (at + 1) 0) (length m - at)) endsEarly _ tt e₁ λ y₂ e₂.
+      record { accepted = a; enough = leb-true _ _ y₁; whole = leb-true _ _ y₂ }
+
+  pub fits-if : {f : ℕ} → f ≡ numberIn sizeAt → f ≡ 0 → Fits
+  fits-if e z = by-number sizeAt (sym e ∙ z) λ u a. fits a
+
+  pub fields-stop : {f : ℕ} → f ≡ numberIn sizeAt → (f ≡ 0 → ⊥) → f ≡ numberIn (fieldsFault m at)
+  fields-stop {f} e h = go sizeAt e
+    where
+      go : (c : Checked (Unit {0})) → f ≡ numberIn c → f ≡ numberIn (andThen c λ _. fault layoutAt 2 (blockAt m at))
+      go (refuse x) e = e
+      go (accept u) e = absurd (h e)
+
+  pub fields-next : Fits → numberIn (fault layoutAt 2 (blockAt m at)) ≡ numberIn (fieldsFault m at)
+  fields-next f = rw (f .accepted)
+
+  -- a block of an unknown technology has no fields
+  pub passed-over : 4 ≤ getD m at 0 → numberIn (sizeFault 2 (getD m (at + 1) 0) (length m - at)) ≡ numberIn (fieldsFault m at)
+  passed-over h = rw (no-layout (eqb (idOf m) 1) (getD m at 0) h) (go (sizeFault 2 (getD m (at + 1) 0) (length m - at)))
+    where
+      go : (c : Checked (Unit {0})) → numberIn c ≡ numberIn (andThen c λ _. ok)
+      go (refuse x) = refl
+      go (accept u) = refl
+
+module _ (m : List ℕ) (awaited at : ℕ) where
+  -- what the head of a block without a fault says
+  pub record Headed : Type 0 where
+    pub two : at + 2 ≤ length m
+    pub comes : bit awaited (getD m at 0) ≡ true
+    pub whole : at + getD m (at + 1) 0 ≤ length m
+
+  pub accepted : {f : ℕ} → f ≡ numberIn (awaitedFault m awaited at) → f ≡ 0 → awaitedFault m awaited at ≡ ok
+  accepted e z = by-number {C = awaitedFault m awaited at ≡ ok} (awaitedFault m awaited at) (sym e ∙ z) λ u a. a
+
+  pub headed : {f : ℕ} → f ≡ numberIn (awaitedFault m awaited at) → f ≡ 0 → Headed
+  headed e z =
+      demanded (leb (at + 2) (length m)) endsEarly _ tt (accepted e z) λ y₁ e₁.
+      demanded (bit awaited (getD m at 0)) wrongBlock _ tt e₁ λ y₂ e₂.
+      chained (sizeAt m at) _ tt e₂ λ v e₃ e₄.
+      let two = leb-true _ _ y₁ in
+      record { two = two; comes = y₂; whole = omega (arith, two, fits m at e₃ .whole) }
+
+  -- the fault of a block does not depend on how the IDs that came are kept
+  pub awaited-block : (came : ℕ → Bool) → Awaits m came awaited → awaitedFault m awaited at ≡ blockFault m came at
+  unfolding blockFault
+  awaited-block came w =
+      let size = getD m (at + 1) 0 in
+      let layout = layoutsOf (idOf m) (getD m at 0) in
+      by-bool (leb (at + 2) (length m))
+      (λ y.
+      let l : at ≤ length m = omega (arith, leb-true (at + 2) (length m) y) in
+      rw (y, w (getD m at 0), left-leb at size (length m) l, in-turn (leb (least layout 2) size) (leb (at + size) (length m)) (fault layout 2 (blockAt m at))))
+      (λ n. rw n)
+
+-- before the first block all IDs in the set are awaited
+pub awaits-all : (m : List ℕ) → Awaits m noId (setOf m)
+awaits-all m id = go (bit (setOf m) id)
+  where
+    go : (b : Bool) → b ≡ (b && true)
+    go true = refl
+    go false = refl
+
+-- and past a block all but its ID
+pub awaits-next : (m : List ℕ) (came : ℕ → Bool) (new awaited rest : ℕ) → Awaits m came awaited → ((id : ℕ) → bit rest id ≡ (bit awaited id && not (eqb id new))) → Awaits m (also new came) rest
+awaits-next m came new awaited rest w r id = r id ∙ rw (w id) (go (bit (setOf m) id) (came id) (eqb id new))
+  where
+    go : (a b c : Bool) → ((a && not b) && not c) ≡ (a && not (c || b))
+    go false b c = refl
+    go true b true = (by-bool (not b) (λ y. rw y) (λ n. rw n))
+    go true true false = refl
+    go true false false = refl
 
 module _ (m : List ℕ) (came : ℕ → Bool) (at : ℕ) where
   abbrev mayCome : Bool
   mayCome = bit (setOf m) (getD m at 0) && not (came (getD m at 0))
-
-  pub block-short : length m < at + 2 → 2 ≡ numberIn (blockFault m came at)
-  unfolding blockFault
-  block-short a = rw (lt-leb _ _ a)
-
-  module _ (a : at + 2 ≤ length m) where
-    pub block-wrong : mayCome ≡ false → 7 ≡ numberIn (blockFault m came at)
-    unfolding blockFault
-    block-wrong b = rw (le-leb _ _ a, b)
-
-    module _ (b : mayCome ≡ true) where
-      pub block-small : getD m (at + 1) 0 < least (layoutsOf (idOf m) (getD m at 0)) 2 → 6 ≡ numberIn (blockFault m came at)
-      unfolding blockFault
-      block-small d = rw (le-leb _ _ a, b, lt-leb _ _ d)
-
-      module _ (d : least (layoutsOf (idOf m) (getD m at 0)) 2 ≤ getD m (at + 1) 0) where
-        pub block-cut : length m < at + getD m (at + 1) 0 → 2 ≡ numberIn (blockFault m came at)
-        unfolding blockFault
-        block-cut e = rw (le-leb _ _ a, b, le-leb _ _ d, lt-leb _ _ e)
-
-        pub block-fields : at + getD m (at + 1) 0 ≤ length m → numberIn (fault (layoutsOf (idOf m) (getD m at 0)) 2 (blockAt m at)) ≡ numberIn (blockFault m came at)
-        unfolding blockFault
-        block-fields e = rw (le-leb _ _ a, b, le-leb _ _ d, le-leb _ _ e)
 
   -- what a block without a fault says
   pub record Sound : Type 0 where
@@ -80,10 +161,6 @@ module _ (m : List ℕ) (came : ℕ → Bool) (at : ℕ) where
 
   pub sound-if : {f : ℕ} → f ≡ numberIn (blockFault m came at) → f ≡ 0 → Sound
   sound-if e z = by-number (blockFault m came at) (sym e ∙ z) λ u a. sound a
-
-  -- its ID has a bit in a set of 16 bits
-  pub id-under : Octets m → Sound → getD m at 0 < 16
-  id-under o s = bit-under 16 (setOf m) (omega (arith, o 2, o 3)) (getD m at 0) (and-true (bit (setOf m) (getD m at 0)) _ (s .comes) .0)
 
   -- one turn of the walk
   pub find-none : (n : ℕ) (found : List ℕ) → length found ≡ 5 → n ≡ 0 → Finds (walk m n came at) at found 0 (set found 4 at)

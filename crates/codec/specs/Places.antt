@@ -1,15 +1,15 @@
 -- What the inner functions of the reader keep: the places of the known technologies' blocks, and what reading a block without a fault rests on.
-use Prim.Native.Nat.{ℕ, _+_, _≤_, _<_}
+use Prim.Native.Nat.{ℕ, _+_, _-_, _≤_, _<_}
 use mathlib.Core.Path.{_≡_}
 use mathlib.Core.List.{List, [], _∷_}
-use mathlib.Core.Bool.{Bool, true, cond}
-use lib.Dec.{ltb, eqb}
+use mathlib.Core.Bool.{Bool, true, _&&_, not, cond}
+use lib.Dec.{leb, ltb, eqb}
 use lib.ListN.{length, getD, set, replicate}
-use Rattle.codec.specs.Refusal.{Checked, refuse, accept, numberOf, numberIn}
-use Rattle.codec.specs.Layout.{Layout, number, octets, counted, value}
-use Rattle.codec.specs.Technology.{known}
+use Rattle.codec.specs.Refusal.{Checked, refuse, accept, demand, andThen, numberOf, numberIn, endsEarly, wrongBlock, blockTooSmall}
+use Rattle.codec.specs.Layout.{Layout, number, octets, counted, value, least, fault}
+use Rattle.codec.specs.Technology.{bit, known}
 use Rattle.codec.specs.Records.{Column, capabilities, configurations, blank}
-use Rattle.codec.specs.Message.{Walked, idOf, setOf, blockAt}
+use Rattle.codec.specs.Message.{Walked, idOf, setOf, layoutsOf, blockAt}
 use Rattle.codec.specs.declared.records.Record.{Record}
 
 -- the octets of a block reach past its last field, and what is counted fits its array
@@ -18,6 +18,26 @@ Roomy [] at s = at ≤ length s
 Roomy (number x w t ∷ L) at s = Roomy L (at + w) s
 Roomy (octets x n t ∷ L) at s = Roomy L (at + n) s
 Roomy (counted y x t c ∷ L) at s = (getD s at 0 ≤ c) × Roomy L (at + 1 + getD s at 0) s
+
+-- ---- one block
+
+-- its size, with so many octets left in the message
+abbrev pub sizeFault : ℕ → ℕ → ℕ → Checked (Unit {0})
+sizeFault least size left = demand (leb least size) blockTooSmall (demand (leb size left) endsEarly (accept tt))
+
+-- its size and its fields
+abbrev pub fieldsFault : List ℕ → ℕ → Checked (Unit {0})
+fieldsFault m at =
+    let layout = layoutsOf (idOf m) (getD m at 0) in
+    andThen (sizeFault (least layout 2) (getD m (at + 1) 0) (length m - at)) λ _. fault layout 2 (blockAt m at)
+
+-- `awaited` has the IDs in the set that have not come yet
+abbrev pub Awaits : List ℕ → (ℕ → Bool) → ℕ → Type 0
+Awaits m came awaited = (id : ℕ) → bit awaited id ≡ (bit (setOf m) id && not (came id))
+
+-- the first fault of a block, told from those
+abbrev pub awaitedFault : List ℕ → ℕ → ℕ → Checked (Unit {0})
+awaitedFault m awaited at = demand (leb (at + 2) (length m)) endsEarly (demand (bit awaited (getD m at 0)) wrongBlock (fieldsFault m at))
 
 -- ---- five numbers: the place of each known technology's block, 0 for none, and the place after the last block
 

@@ -125,10 +125,13 @@ configurations = record {
 abbrev pub blank : {A : Type 0} → Column A → A
 blank C = C .make (λ id. zeroes (C .layouts id))
 
-abbrev pub zeroRecord : Record
-zeroRecord = record { id = 0; set = 0; capability = blank capabilities; configuration = blank configurations }
-
 -- ---- records of one message
+
+abbrev pub withoutBlocks : ℕ → ℕ → Record
+withoutBlocks id set = record { id = id; set = set; capability = blank capabilities; configuration = blank configurations }
+
+abbrev pub zeroRecord : Record
+zeroRecord = withoutBlocks 0 0
 
 -- a Capability Response with these blocks
 abbrev pub response : ℕ → Capability → Record
@@ -151,7 +154,7 @@ messageId SetMessage.Stop = 6
 messageId SetMessage.StopResponse = 7
 
 abbrev pub setRecord : SetMessage → ℕ → Record
-setRecord message set = record { id = messageId message; set = set; capability = blank capabilities; configuration = blank configurations }
+setRecord message set = withoutBlocks (messageId message) set
 
 -- ---- what the reader returns: a refusal's number and the all-zero record, or 0 and the record
 

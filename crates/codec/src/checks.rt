@@ -56,7 +56,9 @@ fn blocks_fault(m: &[u8], at: usize, found: &mut [u16; 5]) -> u8
     requires { ⌜ (4 ≤ length (now m)) × (length (now m) ≤ messageLimit) × (at ≤ length (now m)) × (length (now found) ≡ 5) ⌝ }
     ensures { λ f. ⌜ Judged true (blocksFrom (now (m .entry)) (ones (setOf (now (m .entry)))) at) at (now (found .entry)) f (now (found .exit)) ⌝ }
 {
-    let fault = walk(m, at, u16::count_ones(u16_at(m, 2)), 0, found);
+    let set = u16_at(m, 2);
+    let view = m;
+    let fault = walk(&view, at, u16::count_ones(set), set, found);
     if fault != 0 {
         return fault;
     }

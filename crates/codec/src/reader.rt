@@ -8,7 +8,7 @@ use crate::records::Configuration;
 use crate::records::Reading;
 use crate::records::Record;
 use crate::records::TagReading;
-use crate::records::refused;
+use crate::records::without_blocks;
 use crate::records::zero_capability;
 use crate::records::zero_configuration;
 use crate::rssi;
@@ -53,60 +53,69 @@ fn configuration_at(m: &[u8], found: &[u16; 5]) -> Configuration
     ensures { λ r. ⌜ r ≡ columnAt configurations (now (m .entry)) (now (found .entry)) ⌝ }
 {
     let zeros = [0u8; 20];
+    let nan = nan::configuration(block_or_zeros(m, found[2], &zeros));
     let uwb = uwb::configuration(block_or_zeros(m, found[0], &zeros));
     let cs = cs::configuration(block_or_zeros(m, found[1], &zeros));
-    let nan = nan::configuration(block_or_zeros(m, found[2], &zeros));
     let rssi = rssi::block(block_or_zeros(m, found[3], &zeros));
     Configuration { uwb, cs, nan, rssi }
 }
 
-// The record of a message that is not refused.
-fn record_at(m: &[u8], found: &[u16; 5]) -> Record
-    requires { ⌜ (4 ≤ length (now m)) × (carriesBlocks (idOf (now m)) ≡ true → Placed (layoutsOf (idOf (now m))) (now m) (now found)) ⌝ }
-    ensures { λ r. ⌜ r ≡ recordAt (now (m .entry)) (now (found .entry)) ⌝ }
+// The answer to a Capability Response that is not refused.
+fn accepted_response(m: &[u8], found: &[u16; 5]) -> Reading
+    requires { ⌜ (4 ≤ length (now m)) × (idOf (now m) ≡ 1) × Placed (capabilities .layouts) (now m) (now found) ⌝ }
+    ensures { λ r. ⌜ r ≡ accepted (recordAt (now (m .entry)) (now (found .entry))) ⌝ }
 {
-    let id = m[1];
     let set = u16_at(m, 2) % 16;
-    if id == 1 {
-        let capability = capability_at(m, found);
-        let configuration = zero_configuration();
-        return Record {
-            id,
-            set,
-            capability,
-            configuration,
-        };
-    }
-    let capability = zero_capability();
-    if id == 2 {
-        let configuration = configuration_at(m, found);
-        return Record {
-            id,
-            set,
-            capability,
-            configuration,
-        };
-    }
+    let capability = capability_at(m, found);
     let configuration = zero_configuration();
-    Record {
-        id,
-        set,
-        capability,
-        configuration,
+    Reading {
+        refusal: 0,
+        value: Record {
+            id: 1,
+            set,
+            capability,
+            configuration,
+        },
     }
 }
 
-// Reads a message: its record, or the number of the refusal that the order of checks names.
+// The answer to a Configuration that is not refused.
+fn accepted_configuration(m: &[u8], found: &[u16; 5]) -> Reading
+    requires { ⌜ (4 ≤ length (now m)) × (idOf (now m) ≡ 2) × Placed (configurations .layouts) (now m) (now found) ⌝ }
+    ensures { λ r. ⌜ r ≡ accepted (recordAt (now (m .entry)) (now (found .entry))) ⌝ }
+{
+    let set = u16_at(m, 2) % 16;
+    let capability = zero_capability();
+    let configuration = configuration_at(m, found);
+    Reading {
+        refusal: 0,
+        value: Record {
+            id: 2,
+            set,
+            capability,
+            configuration,
+        },
+    }
+}
+
+// Reads a message: its record, or the number of the refusal that the order of checks names. Each kind of message has a return of
+// its own, so that the record is stored once, where it goes.
 pub fn read(message: &[u8]) -> Reading
     ensures { λ r. ⌜ r ≡ answer (reading (now (message .entry))) ⌝ }
 {
     let mut found = [0u16; 5];
     let fault = message_fault(message, &mut found);
     if fault != 0 {
-        return refused(fault);
+        return without_blocks(fault, 0, 0);
     }
-    let value = record_at(message, &found);
-    Reading { refusal: 0, value }
+    let id = message[1];
+    if id == 1 {
+        return accepted_response(message, &found);
+    }
+    if id == 2 {
+        return accepted_configuration(message, &found);
+    }
+    without_blocks(0, id, u16_at(message, 2) % 16)
 }
 
 // What a tag reads of a message that is not refused.

@@ -13,7 +13,7 @@ use crate::uwb::PreambleIndexes;
 use crate::uwb::UwbCapability;
 use crate::uwb::UwbConfiguration;
 ghost use mathlib.Core.Path.{_≡_};
-ghost use Rattle.codec.specs.Records.{capabilities, configurations, blank, messageId, refused};
+ghost use Rattle.codec.specs.Records.{capabilities, configurations, blank, messageId, withoutBlocks};
 
 // What the blocks of message 1 say. An absent technology's fields are zero.
 #[repr(C)]
@@ -151,16 +151,17 @@ pub fn zero_configuration() -> Configuration
     }
 }
 
-pub(crate) fn refused(number: u8) -> Reading
-    ensures { λ r. ⌜ r ≡ refused number ⌝ }
+// An answer whose record has no blocks.
+pub(crate) fn without_blocks(refusal: u8, id: u8, set: u16) -> Reading
+    ensures { λ r. ⌜ r ≡ record { refusal = refusal; value = withoutBlocks id set } ⌝ }
 {
     let capability = zero_capability();
     let configuration = zero_configuration();
     Reading {
-        refusal: number,
+        refusal,
         value: Record {
-            id: 0,
-            set: 0,
+            id,
+            set,
             capability,
             configuration,
         },

@@ -1,10 +1,9 @@
 // Sets of technologies: a 16-bit number with bit n for ID n.
 ghost use mathlib.Core.Path.{_≡_};
-ghost use mathlib.Core.Bool.{cond};
+ghost use mathlib.Core.Bool.{true, _&&_, not, cond};
 ghost use Prim.Native.Nat.{ℕ, _<_};
 ghost use lib.Dec.{eqb};
 ghost use Rattle.codec.specs.Technology.{bit};
-ghost use Rattle.codec.specs.Message.{also};
 
 // Whether a set has the bit of an ID.
 pub fn has(set: u16, id: u8) -> bool
@@ -16,12 +15,12 @@ pub fn has(set: u16, id: u8) -> bool
     false
 }
 
-// The set with the bit of an ID.
-pub(crate) fn with(set: u16, id: u8) -> u16
-    requires { ⌜ id < 16 ⌝ }
-    ensures { λ r. ⌜ ((j : ℕ) → bit r j ≡ also id (bit set) j) ⌝ }
+// The set without the bit of an ID that it has.
+pub(crate) fn without(set: u16, id: u8) -> u16
+    requires { ⌜ bit set id ≡ true ⌝ }
+    ensures { λ r. ⌜ ((j : ℕ) → bit r j ≡ (bit set j && not (eqb j id))) ⌝ }
 {
-    set | (1 << id)
+    set ^ (1 << id)
 }
 
 // A record's set if it is of this message, and else the empty one.

@@ -11,10 +11,10 @@ slice-aggregate-block-or-zeros : tie.Need-slice-aggregate-block-or-zeros
 slice-aggregate-block-or-zeros c = search needs
 
 block-or-zeros-requires : tie.Need-block-or-zeros-requires
-block-or-zeros-requires c κs = (refl, λ n. c .before .before .before .pre .whole 0 (lit< tt) n)
+block-or-zeros-requires c κs = (refl, λ n. c .before .before .before .pre .whole 2 (lit< tt) n)
 
 configuration-requires : tie.Need-configuration-requires
-configuration-requires c κs = rw (c .block-or-zeros .ensures) (c .before .before .before .before .pre .roomy 0 (lit< tt))
+configuration-requires c κs = rw (c .block-or-zeros .ensures) (c .before .before .before .before .pre .roomy 2 (lit< tt))
 
 element-copy-out-block-or-zeros-2 : tie.Need-element-copy-out-block-or-zeros-2
 element-copy-out-block-or-zeros-2 c = search needs
@@ -23,10 +23,10 @@ slice-aggregate-block-or-zeros-2 : tie.Need-slice-aggregate-block-or-zeros-2
 slice-aggregate-block-or-zeros-2 c = search needs
 
 block-or-zeros-requires-2 : tie.Need-block-or-zeros-requires-2
-block-or-zeros-requires-2 c κs = (refl, λ n. c .before .before .before .before .before .before .before .pre .whole 1 (lit< tt) n)
+block-or-zeros-requires-2 c κs = (refl, λ n. c .before .before .before .before .before .before .before .pre .whole 0 (lit< tt) n)
 
 configuration-requires-2 : tie.Need-configuration-requires-2
-configuration-requires-2 c κs = rw (c .block-or-zeros2 .ensures) (c .before .before .before .before .before .before .before .before .pre .roomy 1 (lit< tt))
+configuration-requires-2 c κs = rw (c .block-or-zeros2 .ensures) (c .before .before .before .before .before .before .before .before .pre .roomy 0 (lit< tt))
 
 element-copy-out-block-or-zeros-3 : tie.Need-element-copy-out-block-or-zeros-3
 element-copy-out-block-or-zeros-3 c = search needs
@@ -35,10 +35,10 @@ slice-aggregate-block-or-zeros-3 : tie.Need-slice-aggregate-block-or-zeros-3
 slice-aggregate-block-or-zeros-3 c = search needs
 
 block-or-zeros-requires-3 : tie.Need-block-or-zeros-requires-3
-block-or-zeros-requires-3 c κs = (refl, λ n. c .before .before .before .before .before .before .before .before .before .before .before .pre .whole 2 (lit< tt) n)
+block-or-zeros-requires-3 c κs = (refl, λ n. c .before .before .before .before .before .before .before .before .before .before .before .pre .whole 1 (lit< tt) n)
 
 configuration-requires-3 : tie.Need-configuration-requires-3
-configuration-requires-3 c κs = rw (c .block-or-zeros3 .ensures) (c .before .before .before .before .before .before .before .before .before .before .before .before .pre .roomy 2 (lit< tt))
+configuration-requires-3 c κs = rw (c .block-or-zeros3 .ensures) (c .before .before .before .before .before .before .before .before .before .before .before .before .pre .roomy 1 (lit< tt))
 
 element-copy-out-block-or-zeros-4 : tie.Need-element-copy-out-block-or-zeros-4
 element-copy-out-block-or-zeros-4 c = search needs
