@@ -69,8 +69,7 @@ pub(crate) fn valid_capability(present: bool, v: CsCapability) -> bool
     if present {
         return true;
     }
-    let address = v.address;
-    (v.security_types == 0) & all_zero(&address)
+    (v.security_types == 0) & all_zero(&v.address)
 }
 
 pub(crate) fn valid_configuration(present: bool, v: CsConfiguration) -> bool
@@ -79,8 +78,7 @@ pub(crate) fn valid_configuration(present: bool, v: CsConfiguration) -> bool
     if present {
         return inside(0, 4, v.security_level);
     }
-    let address = v.address;
-    (v.security_level == 0) & all_zero(&address)
+    (v.security_level == 0) & all_zero(&v.address)
 }
 
 // How many octets either block takes: both are an octet and an address.

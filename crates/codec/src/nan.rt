@@ -131,15 +131,14 @@ pub(crate) fn put_capability(present: bool, v: NanCapability, out: &mut [u8], at
 pub(crate) fn valid_configuration(present: bool, v: NanConfiguration) -> bool
     ensures { λ r. ⌜ r ≡ validFields nanConfiguration present (ofNanConfiguration v) ⌝ }
 {
-    let name = v.name;
     if !present {
-        return (v.name_length == 0) & (all_zero(&name) & ((v.role == 0) & (v.periodic == 0)));
+        return (v.name_length == 0) & (all_zero(&v.name) & ((v.role == 0) & (v.periodic == 0)));
     }
     if !inside(1, 64, v.name_length) {
         return false;
     }
     let n = v.name_length as usize;
-    inside(0, 1, v.role) & (inside(0, 1, v.periodic) & zero_from(&name, n))
+    inside(0, 1, v.role) & (inside(0, 1, v.periodic) & zero_from(&v.name, n))
 }
 
 // How many octets the block takes.

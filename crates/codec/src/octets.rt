@@ -88,12 +88,17 @@ pub(crate) fn name_at(s: &[u8], at: usize, n: usize) -> [u8; 64]
     out
 }
 
-// Whether all octets are zero. It looks at every one, so that the machine code can take many at a time.
+// Whether all octets are zero, four at a time and then the rest. It looks at every one, so that the machine code can take many
+// at a time.
 pub fn all_zero(s: &[u8]) -> bool
     ensures { λ r. ⌜ r ≡ allZero (now (s .entry)) ⌝ }
 {
     let mut all = true;
     let mut i = 0;
+    while 4 <= s.len() - i {
+        all = all & (u32_at(s, i) == 0);
+        i += 4;
+    }
     while i < s.len() {
         all = all & (s[i] == 0);
         i += 1;

@@ -35,8 +35,7 @@ pub(crate) fn valid_block(present: bool, v: Rssi) -> bool
     if present {
         return true;
     }
-    let address = v.address;
-    all_zero(&address)
+    all_zero(&v.address)
 }
 
 // How many octets the block takes.

@@ -198,8 +198,7 @@ pub(crate) fn valid_capability(present: bool, v: UwbCapability) -> bool
     if present {
         return allowed_interval(v.shortest_interval) & inside(1, 2, v.shortest_slot);
     }
-    let address = v.address;
-    zero_pair(&address)
+    zero_pair(&v.address)
         & ((v.channels.0 == 0)
             & ((v.preamble_indexes.0 == 0)
                 & ((v.config_ids.0 == 0)
@@ -264,14 +263,11 @@ fn zero_key_from(key: &[u8; 32], from: usize) -> bool
 fn zero_configuration(v: UwbConfiguration) -> bool
     ensures { λ r. ⌜ r ≡ zeroed uwbConfiguration (ofUwbConfiguration v) ⌝ }
 {
-    let address = v.address;
-    let key = v.key;
-    let country = v.country;
     let ids = (v.session_id == 0)
         & ((v.config_id.0 == 0) & ((v.channel.0 == 0) & (v.preamble_index.0 == 0)));
     let timing = (v.interval == 0) & ((v.slot == 0) & (v.key_length == 0));
-    let last = zero_pair(&country) & ((v.role == 0) & (v.mode == 0));
-    zero_pair(&address) & (ids & (timing & (zero_key(&key) & last)))
+    let last = zero_pair(&v.country) & ((v.role == 0) & (v.mode == 0));
+    zero_pair(&v.address) & (ids & (timing & (zero_key(&v.key) & last)))
 }
 
 pub(crate) fn valid_configuration(present: bool, v: UwbConfiguration) -> bool

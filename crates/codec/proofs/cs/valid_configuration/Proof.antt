@@ -9,9 +9,6 @@ inside-requires c κs = search needs
 returns : tie.Need-returns
 returns c = simp (c .before .if1 .taken, c .inside .ensures, and-true)
 
-slice-aggregate-all-zero : tie.Need-slice-aggregate-all-zero
-slice-aggregate-all-zero c = search needs
-
 all-zero-requires : tie.Need-all-zero-requires
 all-zero-requires c κs = search needs
 
@@ -19,6 +16,4 @@ returns-2 : tie.Need-returns-2
 returns-2 c = simp (c .before .before .before .before .if1 .left, c .all-zero .ensures, and-true)
 
 pub valid-configuration-spec : {M : Type 1} → statement M
-valid-configuration-spec =
-    tie.close
-    (tie.spec inside-requires returns slice-aggregate-all-zero all-zero-requires returns-2)
+valid-configuration-spec = tie.close (tie.spec inside-requires returns all-zero-requires returns-2)

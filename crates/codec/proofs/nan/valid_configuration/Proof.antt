@@ -5,20 +5,17 @@ use borrow.Author.Needs.{needs}
 use Rattle.codec.proofs.nan.valid_configuration.Statement.{statement}
 use Rattle.codec.proofs.nan.valid_configuration.Tie as tie
 
-slice-aggregate-all-zero : tie.Need-slice-aggregate-all-zero
-slice-aggregate-all-zero c = search needs
-
 all-zero-requires : tie.Need-all-zero-requires
 all-zero-requires c κs = search needs
 
 returns : tie.Need-returns
-returns c = simp (not-true (c .before .before .before .before .before .before .before .args .present) (c .before .before .before .before .before .if1 .taken), c .before .before .all-zero .ensures, and-true)
+returns c = simp (not-true (c .before .before .before .before .before .args .present) (c .before .before .before .before .if1 .taken), c .all-zero .ensures, and-true)
 
 inside-requires : tie.Need-inside-requires
 inside-requires c κs = search needs
 
 returns-2 : tie.Need-returns-2
-returns-2 c = simp (not-false (c .before .before .before .before .args .present) (c .before .before .if1 .left), failed (c .before .inside .ensures) (c .if2 .taken))
+returns-2 c = simp (not-false (c .before .before .before .args .present) (c .before .before .if1 .left), failed (c .before .inside .ensures) (c .if2 .taken))
 
 cast-n : tie.Need-cast-n
 cast-n c = search needs
@@ -29,20 +26,16 @@ inside-requires-2 c κs = search needs
 inside-requires-3 : tie.Need-inside-requires-3
 inside-requires-3 c κs = search needs
 
-slice-aggregate-zero-from : tie.Need-slice-aggregate-zero-from
-slice-aggregate-zero-from c = search needs
-
 zero-from-requires : tie.Need-zero-from-requires
 zero-from-requires c κs = search needs
 
 returns-3 : tie.Need-returns-3
-returns-3 c = simp (not-false (c .before .before .before .before .before .before .before .before .before .args .present) (c .before .before .before .before .before .before .before .if1 .left), passed (c .before .before .before .before .before .before .inside .ensures) (c .before .before .before .before .before .if2 .left), c .before .before .before .inside2 .ensures, c .before .before .inside3 .ensures, c .zero-from .ensures, and-true, and-assoc)
+returns-3 c = simp (not-false (c .before .before .before .before .before .before .before .before .before .args .present) (c .before .before .before .before .before .before .before .before .if1 .left), passed (c .before .before .before .before .before .before .before .inside .ensures) (c .before .before .before .before .before .before .if2 .left), c .before .before .before .before .before .inside2 .ensures, c .before .before .before .before .inside3 .ensures, c .zero-from .ensures, and-true, and-assoc)
 
 pub valid-configuration-spec : {M : Type 1} → statement M
 valid-configuration-spec =
     tie.close
     (tie.spec
-    slice-aggregate-all-zero
     all-zero-requires
     returns
     inside-requires
@@ -50,6 +43,5 @@ valid-configuration-spec =
     cast-n
     inside-requires-2
     inside-requires-3
-    slice-aggregate-zero-from
     zero-from-requires
     returns-3)

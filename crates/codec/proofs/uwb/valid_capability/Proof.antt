@@ -16,7 +16,7 @@ zero-pair-requires : tie.Need-zero-pair-requires
 zero-pair-requires c κs = search needs
 
 returns-2 : tie.Need-returns-2
-returns-2 c = simp (c .before .before .before .before .before .before .before .before .before .if1 .left, c .before .before .before .before .before .before .zero-pair .ensures, and-true)
+returns-2 c = simp (c .before .before .before .if1 .left, c .zero-pair .ensures, and-true)
 
 pub valid-capability-spec : {M : Type 1} → statement M
 valid-capability-spec =

@@ -13,7 +13,7 @@ zero-key-requires : tie.Need-zero-key-requires
 zero-key-requires c κs = search needs
 
 returns : tie.Need-returns
-returns c = simp (c .before .before .before .before .before .before .zero-pair .ensures, c .before .before .zero-pair2 .ensures, c .zero-key .ensures, and-true, and-assoc)
+returns c = simp (c .before .before .before .before .before .before .zero-pair .ensures, c .before .before .before .zero-pair2 .ensures, c .zero-key .ensures, and-true, and-assoc)
 
 pub zero-configuration-spec : {M : Type 1} → statement M
 zero-configuration-spec =
