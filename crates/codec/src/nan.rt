@@ -164,12 +164,11 @@ pub(crate) fn put_configuration(
     if !present {
         return at;
     }
-    let name = v.name;
     let n = v.name_length as usize;
     let size = put(out, at, 2);
     let fields = put(out, size, 5 + v.name_length);
     let octets = put(out, fields, v.name_length);
-    let role = put_name(out, octets, &name, n);
+    let role = put_name(out, octets, &v.name, n);
     let periodic = put(out, role, v.role);
     put(out, periodic, v.periodic)
 }

@@ -55,8 +55,7 @@ pub(crate) fn put_block(present: bool, v: Rssi, out: &mut [u8], at: usize) -> us
     if !present {
         return at;
     }
-    let address = v.address;
     let size = put(out, at, 3);
     let fields = put(out, size, 8);
-    put_address(out, fields, &address)
+    put_address(out, fields, &v.address)
 }

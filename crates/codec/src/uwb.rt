@@ -232,10 +232,9 @@ pub(crate) fn put_capability(present: bool, v: UwbCapability, out: &mut [u8], at
     if !present {
         return at;
     }
-    let address = v.address;
     let size = put(out, at, 0);
     let fields = put(out, size, 20);
-    let channels = put_pair(out, fields, &address);
+    let channels = put_pair(out, fields, &v.address);
     let interval = put_sets(v, out, channels);
     let slot = put_u16(out, interval, v.shortest_interval);
     let roles = put(out, slot, v.shortest_slot);
@@ -317,8 +316,7 @@ fn put_after_key(v: UwbConfiguration, out: &mut [u8], at: usize) -> usize
     requires { ⌜ at + 4 ≤ length (now out) ⌝ }
     ensures { λ r. ⌜ Put (now (out .entry)) at (write uwbAfterKey (afterKey v)) (now (out .exit)) r × (length (v .country) ≡ 2) ⌝ }
 {
-    let country = v.country;
-    let role = put_pair(out, at, &country);
+    let role = put_pair(out, at, &v.country);
     let mode = put(out, role, v.role);
     put(out, mode, v.mode)
 }
@@ -335,14 +333,12 @@ pub(crate) fn put_configuration(
     if !present {
         return at;
     }
-    let address = v.address;
-    let key = v.key;
     let k = v.key_length as usize;
     let size = put(out, at, 0);
     let fields = put(out, size, 19 + v.key_length);
-    let session_id = put_pair(out, fields, &address);
+    let session_id = put_pair(out, fields, &v.address);
     let key_length = put_before_key(v, out, session_id);
     let octets = put(out, key_length, v.key_length);
-    let country = put_key(out, octets, &key, k);
+    let country = put_key(out, octets, &v.key, k);
     put_after_key(v, out, country)
 }

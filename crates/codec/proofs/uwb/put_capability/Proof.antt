@@ -12,13 +12,13 @@ room : (c : tie.Else1) → let s = c .before .before in s .args .at + 20 ≤ len
 room c = room-present (c .before .before .args .present) 20 _ (c .before .before .args .at) (c .if1 .left) (c .before .before .pre)
 
 returns : tie.Need-returns
-returns c = put-absent (c .before .before .args .present) (c .before .before .args .out .now) (c .before .before .args .at) _ uwbCapability 0 (ofUwbCapability (c .before .before .args .v)) (c .if1 .taken) (c .before .before .pre)
+returns c = put-absent (c .before .before .args .present) (c .before .before .args .out .now) (c .before .before .args .at) _ uwbCapability 0 (ofUwbCapability (c .before .before .args .t2)) (c .if1 .taken) (c .before .before .pre)
 
 put-requires : tie.Need-put-requires
-put-requires c κs = omega (arith, room (c .before .before))
+put-requires c κs = omega (arith, room (c .before))
 
 put-requires-2 : tie.Need-put-requires-2
-put-requires-2 c κs = omega (arith, room (c .before .before .before .before .before .before))
+put-requires-2 c κs = omega (arith, room (c .before .before .before .before .before))
 
 put-pair-requires : tie.Need-put-pair-requires
 put-pair-requires c κs = omega (arith, room (c .before .before .before .before .before .before .before .before .before .before .before))
@@ -40,8 +40,8 @@ same-length c = search needs
 
 returns-2 : tie.Need-returns-2
 returns-2 c =
-    put-block (c .before .before .before .before .before .before .before .before .before .before .before .before .before .before .before .before .before .before .before .before .before .before .before .before .before .before .before .before .before .before .before .before .args .present) uwbCapability 0 20 (ofUwbCapability (c .before .before .before .before .before .before .before .before .before .before .before .before .before .before .before .before .before .before .before .before .before .before .before .before .before .before .before .before .before .before .before .before .args .v)) (c .before .before .before .before .before .before .before .before .before .before .before .before .before .before .before .before .before .before .before .before .before .before .before .before .before .before .before .before .before .before .if1 .left) (simp length-append (omega (arith, c .before .before .before .before .before .before .before .before .before .before .before .before .before .before .before .before .before .before .put-pair .ensures .1)))
-    (put-then (c .before .before .before .before .before .before .before .before .before .before .before .before .before .before .before .before .before .before .before .before .before .before .before .before .before .before .before .put .ensures) (put-then (c .before .before .before .before .before .before .before .before .before .before .before .before .before .before .before .before .before .before .before .before .before .before .before .put2 .ensures) (put-then (c .before .before .before .before .before .before .before .before .before .before .before .before .before .before .before .before .before .before .put-pair .ensures .0) (put-then (c .before .before .before .before .before .before .before .before .before .before .before .before .before .before .put-sets .ensures) (put-then (c .before .before .before .before .before .before .before .before .before .before .put-u16 .ensures) (put-then (c .before .before .before .before .before .before .put3 .ensures) (put-last (c .before .before .put4 .ensures))))))))
+    put-block (c .before .before .before .before .before .before .before .before .before .before .before .before .before .before .before .before .before .before .before .before .before .before .before .before .before .before .before .before .before .before .before .before .args .present) uwbCapability 0 20 (ofUwbCapability (c .before .before .before .before .before .before .before .before .before .before .before .before .before .before .before .before .before .before .before .before .before .before .before .before .before .before .before .before .before .before .before .before .args .t2)) (c .before .before .before .before .before .before .before .before .before .before .before .before .before .before .before .before .before .before .before .before .before .before .before .before .before .before .before .before .before .before .if1 .left) (simp length-append (omega (arith, c .before .before .before .before .before .before .before .before .before .before .before .before .before .before .before .before .before .before .put-pair .ensures .1)))
+    (put-then (c .before .before .before .before .before .before .before .before .before .before .before .before .before .before .before .before .before .before .before .before .before .before .before .before .before .before .before .before .put .ensures) (put-then (c .before .before .before .before .before .before .before .before .before .before .before .before .before .before .before .before .before .before .before .before .before .before .before .before .put2 .ensures) (put-then (c .before .before .before .before .before .before .before .before .before .before .before .before .before .before .before .before .before .before .put-pair .ensures .0) (put-then (c .before .before .before .before .before .before .before .before .before .before .before .before .before .before .put-sets .ensures) (put-then (c .before .before .before .before .before .before .before .before .before .before .put-u16 .ensures) (put-then (c .before .before .before .before .before .before .put3 .ensures) (put-last (c .before .before .put4 .ensures))))))))
 
 pub put-capability-spec : {M : Type 1} → statement M
 put-capability-spec =
