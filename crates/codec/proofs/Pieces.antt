@@ -4,25 +4,27 @@ use native.Mathlib.Omega.{arith}
 use mathlib.Core.Path.{_≡_, refl, sym, ap, _∙_}
 use mathlib.Core.Bool.{Bool, true, false, _&&_, cond}
 use mathlib.Core.List.{List, [], _∷_, _++_, append-nil, flatten}
-use lib.Dec.{eqb, ltb}
+use lib.Dec.{eqb}
 use lib.ListN.{length, length-append}
 use borrow.Author.Tests.{eqb-true, ne-eqb, lt-leb, le-leb}
 use Rattle.codec.specs.Octets.{toLE, allZero}
 use Rattle.codec.specs.Layout.{Layout, number, octets, counted, test, spelled, Values, allowed, cleared, zeroed}
 use Rattle.codec.specs.Blocks.{uwbCapability, csCapability, nanCapability, rssiBlock, uwbConfiguration, csConfiguration, nanConfiguration}
 use Rattle.codec.specs.Technology.{bit}
-use Rattle.codec.specs.Records.{Column, capabilities, configurations, ofUwbCapability, ofCsCapability, ofNanCapability, ofRssi, ofConfiguration, blank, response, only, messageId, setRecord}
+use Rattle.codec.specs.Records.{Column, capabilities, configurations, ofUwbCapability, ofCsCapability, ofNanCapability, ofRssi, ofConfiguration, blank, response, only, settings, withoutBlocks}
 use Rattle.codec.specs.Message.{assigned}
-use Rattle.codec.specs.Valid.{validFields, setIn, validColumn, valid}
+use Rattle.codec.specs.Valid.{validFields, validColumn, valid}
 use Rattle.codec.specs.NormalForm.{block, rising, columnBlocks, normal}
 use Rattle.codec.specs.Writing.{writing, Writes}
-use Rattle.codec.specs.Puts.{over, Put, blockIf, head, columnOctets, Sized, Long, LongCapability, LongConfiguration, LongRecord, Fit}
+use Rattle.codec.specs.Puts.{over, Put, blockIf, head, columnOctets, Sized, Long, Fit, restZero}
 use Rattle.codec.specs.declared.records.Capability.{Capability}
+use Rattle.codec.specs.declared.records.Configuration.{Configuration}
 use Rattle.codec.specs.declared.records.Record.{Record}
-use Rattle.codec.specs.declared.records.SetMessage.{SetMessage}
+use Rattle.codec.specs.declared.records.Written.{Written}
 use Rattle.codec.proofs.Outcomes.{and-true}
 use Rattle.codec.proofs.Layouts.{fits, within, within-le}
 use Rattle.codec.proofs.Puts.{put-then}
+use Rattle.codec.proofs.ValidCases.{only-of, settings-of, bare-valid, bare-of}
 
 pub cond-le : (b : Bool) (n : ℕ) → cond b n 0 ≤ n
 cond-le true n = omega arith
@@ -120,21 +122,6 @@ module _ (r : Record) where
   unfolding normal flatten
   normal-other h k = rw (ne-eqb (r .id) 1 h, ne-eqb (r .id) 2 k)
 
-  -- it has a head of four octets
-  pub normal-long : 4 ≤ length (normal r)
-  unfolding normal
-  normal-long = omega arith
-
-  -- the sizes of a record's blocks, by message
-  pub long-capability : r .id ≡ 1 → LongCapability (r .set) (r .capability) → LongRecord r
-  long-capability h l = record { capability = λ _. l; configuration = λ k. let z : _≡_ {A = ℕ} 1 2 = sym h ∙ k in absurd (omega arith) }
-
-  pub long-configuration : r .id ≡ 2 → LongConfiguration (r .set) (r .configuration) → LongRecord r
-  long-configuration h l = record { capability = λ k. let z : _≡_ {A = ℕ} 1 2 = sym k ∙ h in absurd (omega arith); configuration = λ _. l }
-
-  pub long-other : (r .id ≡ 1 → ⊥) → (r .id ≡ 2 → ⊥) → LongRecord r
-  long-other h k = record { capability = λ e. absurd (h e); configuration = λ e. absurd (k e) }
-
 -- the blocks that a set names are those of what it leaves of a capability
 only-octets : (set : ℕ) (c : Capability) → columnOctets capabilities set (only set c) ≡ columnOctets capabilities set c
 only-octets set c = rw (
@@ -154,15 +141,17 @@ normal-response set c = normal-capability (response set (only set c)) refl ∙ a
 pub put-response : (set : ℕ) (c : Capability) {d e : List ℕ} {next : ℕ} → Put d 0 (head 1 set ++ columnOctets capabilities set c) e next → Put d 0 (normal (response set (only set c))) e next
 put-response set c p = rw (normal-response set c) p
 
-pub normal-set : (message : SetMessage) (set : ℕ) → normal (setRecord message set) ≡ head (messageId message) set
-unfolding normal flatten
-normal-set SetMessage.Request set = refl
-normal-set SetMessage.ConfigurationResponse set = refl
-normal-set SetMessage.Stop set = refl
-normal-set SetMessage.StopResponse set = refl
+pub normal-settings : (set : ℕ) (c : Configuration) → normal (settings set c) ≡ head 2 set ++ (toLE 2 set ++ columnOctets configurations set c)
+normal-settings set c = normal-configuration (settings set c) refl
 
-pub put-set : (message : SetMessage) (set : ℕ) {d e : List ℕ} {next : ℕ} → Put d 0 (head (messageId message) set) e next → Put d 0 (normal (setRecord message set)) e next
-put-set message set p = rw (normal-set message set) p
+pub put-settings : (set : ℕ) (c : Configuration) {d e : List ℕ} {next : ℕ} → Put d 0 (head 2 set ++ (toLE 2 set ++ columnOctets configurations set c)) e next → Put d 0 (normal (settings set c)) e next
+put-settings set c p = rw (normal-settings set c) p
+
+pub normal-bare : (id set : ℕ) → (id ≡ 1 → ⊥) → (id ≡ 2 → ⊥) → normal (withoutBlocks id set) ≡ head id set
+normal-bare id set n m = normal-other (withoutBlocks id set) n m
+
+pub put-bare : (id set : ℕ) → (id ≡ 1 → ⊥) → (id ≡ 2 → ⊥) → {d e : List ℕ} {next : ℕ} → Put d 0 (head id set) e next → Put d 0 (normal (withoutBlocks id set)) e next
+put-bare id set n m p = rw (normal-bare id set n m) p
 
 -- ---- the counted octets of a valid record fit their arrays
 
@@ -193,15 +182,10 @@ held : (L : Layout) → fits L ≡ true → (present : Bool) (v : Values L) → 
 held L f true v e = held-allowed L f v (and-true (allowed L v) (cleared L v) e .0)
 held L f false v e = held-zeroed L v e
 
-pub fit : (r : Record) → valid r ≡ true → Fit (r .configuration)
-unfolding valid validColumn
-fit r e =
-    let s = setIn 2 r in
-    let c = r .configuration in
-    let a = and-true (assigned (r .id)) _ e .1 in
-    let b = and-true (ltb (r .set) 16) _ a .1 in
-    let d = and-true (validColumn capabilities (setIn 1 r) (r .capability)) _ b .1 in
-    let u = and-true (validFields uwbConfiguration (bit s 0) (ofConfiguration c 0)) _ d in
+pub fit : (set : ℕ) (c : Configuration) → validColumn configurations set c ≡ true → Fit c
+unfolding validColumn
+fit s c e =
+    let u = and-true (validFields uwbConfiguration (bit s 0) (ofConfiguration c 0)) _ e in
     let n = and-true (validFields nanConfiguration (bit s 2) (ofConfiguration c 2)) _ (and-true (validFields csConfiguration (bit s 1) (ofConfiguration c 1)) _ (u .1) .1) in
     (held uwbConfiguration refl (bit s 0) (ofConfiguration c 0) (u .0) .0, held nanConfiguration refl (bit s 2) (ofConfiguration c 2) (n .0) .0)
 
@@ -222,3 +206,25 @@ module _ (r : Record) (d : List ℕ) where
       let b = le-leb (length (normal r)) (length d) l in
       let z : 0 + length (normal r) ≡ length (normal r) = omega arith in
       record { answers = rw (h, b, k); leaves = rw (h, b) (rw z at (p .wrote)) }
+
+  -- a record that is as valid as another and has the same octets
+  alike : (t : Record) → valid r ≡ valid t → normal r ≡ normal t → {a : Written} {e : List ℕ} → Writes t d a e → Writes r d a e
+  unfolding writing
+  alike t v n w = rw (v, n) w
+
+  module _ {a : Written} {e : List ℕ} where
+    pub as-response : r .id ≡ 1 → (restZero (r .set) (r .capability) && validColumn configurations 0 (r .configuration)) ≡ true → Writes (response (r .set) (only (r .set) (r .capability))) d a e → Writes r d a e
+    as-response h z = alike (response (r .set) (only (r .set) (r .capability))) (only-of r h ∙ rw z (both-true _)) (normal-capability r h ∙ rw h (sym (normal-response (r .set) (r .capability))))
+      where
+        both-true : (b : Bool) → (b && true) ≡ b
+        both-true true = refl
+        both-true false = refl
+
+    module _ (n : r .id ≡ 1 → ⊥) (z : validColumn capabilities 0 (r .capability) ≡ true) where
+      pub as-settings : r .id ≡ 2 → Writes (settings (r .set) (r .configuration)) d a e → Writes r d a e
+      as-settings h = alike (settings (r .set) (r .configuration)) (settings-of r n z h) (normal-configuration r h ∙ rw h (sym (normal-settings (r .set) (r .configuration))))
+
+      pub as-bare : (r .id ≡ 2 → ⊥) → (assigned (r .id) && validColumn configurations 0 (r .configuration)) ≡ true → Writes (withoutBlocks (r .id) (r .set)) d a e → Writes r d a e
+      as-bare m t =
+          let s = and-true (assigned (r .id)) _ t .0 in
+          alike (withoutBlocks (r .id) (r .set)) (bare-of r n z m ∙ rw t (sym (bare-valid (r .id) (r .set) s n m))) (normal-other r n m ∙ sym (normal-bare (r .id) (r .set) n m))

@@ -1,20 +1,19 @@
 -- What the inner functions of the writer keep, and those of the listing: octets put into the buffer one piece after the other, and how long the blocks are.
 use Prim.Native.Nat.{ℕ, _+_, _≤_}
-use mathlib.Core.Bool.{Bool, true, false, cond}
+use mathlib.Core.Bool.{Bool, true, false, _&&_, _||_, cond}
 use mathlib.Core.Path.{_≡_}
 use mathlib.Core.List.{List, [], _∷_, _++_}
 use lib.ListN.{length, take, drop}
 use Rattle.codec.specs.Octets.{toLE}
-use Rattle.codec.specs.Layout.{Layout, Values}
-use Rattle.codec.specs.Blocks.{uwbAfterKey}
+use Rattle.codec.specs.Layout.{Layout, Values, zeroed}
+use Rattle.codec.specs.Blocks.{uwbCapability, csCapability, nanCapability, rssiBlock, uwbAfterKey}
 use Rattle.codec.specs.Technology.{bit}
-use Rattle.codec.specs.Records.{Column, capabilities, configurations}
+use Rattle.codec.specs.Records.{Column, capabilities, configurations, ofUwbCapability, ofCsCapability, ofNanCapability, ofRssi}
 use Rattle.codec.specs.NormalForm.{block}
 use Rattle.codec.specs.declared.uwb.UwbCapability.{UwbCapability}
 use Rattle.codec.specs.declared.uwb.UwbConfiguration.{UwbConfiguration}
 use Rattle.codec.specs.declared.records.Capability.{Capability}
 use Rattle.codec.specs.declared.records.Configuration.{Configuration}
-use Rattle.codec.specs.declared.records.Record.{Record}
 
 -- d with octets from a place on
 unfoldable pub over : List ℕ → ℕ → List ℕ → List ℕ
@@ -78,7 +77,10 @@ LongConfiguration set c = Long configurations set c (19 + c .uwb .«key_length»
 abbrev pub Fit : Configuration → Type 0
 Fit c = (c .uwb .«key_length» ≤ 32) × (c .nan .«name_length» ≤ 64)
 
--- how long the blocks of a record's message are
-pub record LongRecord (r : Record) : Type 0 where
-  pub capability : r .id ≡ 1 → LongCapability (r .set) (r .capability)
-  pub configuration : r .id ≡ 2 → LongConfiguration (r .set) (r .configuration)
+-- the fields of the technologies that a set leaves out of a capability are zero
+abbrev pub restZero : ℕ → Capability → Bool
+restZero set c =
+    (bit set 0 || zeroed uwbCapability (ofUwbCapability (c .uwb)))
+    && ((bit set 1 || zeroed csCapability (ofCsCapability (c .cs)))
+    && ((bit set 2 || zeroed nanCapability (ofNanCapability (c .nan)))
+    && (bit set 3 || zeroed rssiBlock (ofRssi (c .rssi)))))

@@ -146,6 +146,10 @@ only set c = record {
   rssi = cond (bit set 3) (c .rssi) (blank capabilities .rssi);
 }
 
+-- a Configuration with these blocks
+abbrev pub settings : ℕ → Configuration → Record
+settings set c = record { id = 2; set = set; capability = blank capabilities; configuration = c }
+
 -- a message that carries a set and nothing else
 abbrev pub messageId : SetMessage → ℕ
 messageId SetMessage.Request = 0

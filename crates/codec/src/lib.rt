@@ -43,7 +43,7 @@ pub use uwb::PreambleIndex;
 pub use uwb::PreambleIndexes;
 pub use uwb::UwbCapability;
 pub use uwb::UwbConfiguration;
-pub use validity::valid;
+pub use validity::no_configuration;
 pub use validity::valid_response;
 pub use walker::block;
 pub use writer::write;

@@ -1,6 +1,6 @@
 // Sets of technologies: a 16-bit number with bit n for ID n.
 ghost use mathlib.Core.Path.{_≡_};
-ghost use mathlib.Core.Bool.{true, _&&_, not, cond};
+ghost use mathlib.Core.Bool.{true, _&&_, not};
 ghost use Prim.Native.Nat.{ℕ, _<_};
 ghost use lib.Dec.{eqb};
 ghost use Rattle.codec.specs.Technology.{bit};
@@ -21,14 +21,4 @@ pub(crate) fn without(set: u16, id: u8) -> u16
     ensures { λ r. ⌜ ((j : ℕ) → bit r j ≡ (bit set j && not (eqb j id))) ⌝ }
 {
     set ^ (1 << id)
-}
-
-// A record's set if it is of this message, and else the empty one.
-pub(crate) fn set_in(message: u8, id: u8, set: u16) -> u16
-    ensures { λ r. ⌜ r ≡ cond (eqb id message) set 0 ⌝ }
-{
-    if id == message {
-        return set;
-    }
-    0
 }

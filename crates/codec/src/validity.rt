@@ -1,19 +1,18 @@
-// Validity of a record, which the writer tests first.
+// Validity of what a record holds.
 use crate::cs;
 use crate::nan;
 use crate::records::Capability;
 use crate::records::Configuration;
-use crate::records::Record;
 use crate::rssi;
 use crate::technology::has;
-use crate::technology::set_in;
 use crate::uwb;
 ghost use mathlib.Core.Path.{_≡_};
 ghost use Rattle.codec.specs.Message.{assigned};
 ghost use Rattle.codec.specs.Records.{capabilities, configurations, response, only};
 ghost use Rattle.codec.specs.Valid.{validColumn, valid};
+ghost use Rattle.codec.specs.Puts.{restZero};
 
-fn assigned(id: u8) -> bool
+pub(crate) fn assigned(id: u8) -> bool
     ensures { λ r. ⌜ r ≡ assigned id ⌝ }
 {
     match id {
@@ -23,7 +22,7 @@ fn assigned(id: u8) -> bool
 }
 
 // Whether the fields of the technologies in a set are allowed, and all others zero.
-fn valid_capability(set: u16, c: Capability) -> bool
+pub(crate) fn valid_capability(set: u16, c: Capability) -> bool
     ensures { λ r. ⌜ r ≡ validColumn capabilities set c ⌝ }
 {
     let uwb = uwb::valid_capability(has(set, 0), c.uwb);
@@ -33,7 +32,7 @@ fn valid_capability(set: u16, c: Capability) -> bool
     uwb & (cs & (nan & rssi))
 }
 
-fn valid_configuration(set: u16, c: Configuration) -> bool
+pub(crate) fn valid_configuration(set: u16, c: Configuration) -> bool
     ensures { λ r. ⌜ r ≡ validColumn configurations set c ⌝ }
 {
     let uwb = uwb::valid_configuration(has(set, 0), c.uwb);
@@ -59,14 +58,20 @@ pub(crate) fn valid_only(set: u16, c: Capability) -> bool
     (set < 16) & (uwb & nan)
 }
 
-// Whether a record is valid.
-pub fn valid(value: Record) -> bool
-    ensures { λ r. ⌜ r ≡ valid value ⌝ }
+// Whether the fields of the technologies that a set leaves out are zero.
+pub(crate) fn rest_zero(set: u16, c: Capability) -> bool
+    ensures { λ r. ⌜ r ≡ restZero set c ⌝ }
 {
-    if !(assigned(value.id) & (value.set < 16)) {
-        return false;
-    }
-    let capability = valid_capability(set_in(1, value.id, value.set), value.capability);
-    let configuration = valid_configuration(set_in(2, value.id, value.set), value.configuration);
-    capability & configuration
+    let uwb = has(set, 0) | uwb::valid_capability(false, c.uwb);
+    let cs = has(set, 1) | cs::valid_capability(false, c.cs);
+    let nan = has(set, 2) | nan::valid_capability(false, c.nan);
+    let rssi = has(set, 3) | rssi::valid_block(false, c.rssi);
+    uwb & (cs & (nan & rssi))
+}
+
+// Whether all fields are zero, as in every record but a Configuration.
+pub fn no_configuration(c: Configuration) -> bool
+    ensures { λ r. ⌜ r ≡ validColumn configurations 0 c ⌝ }
+{
+    valid_configuration(0, c)
 }

@@ -14,15 +14,19 @@ use crate::refusal::NOT_VALID;
 use crate::rssi;
 use crate::technology::has;
 use crate::uwb;
-use crate::validity::valid;
+use crate::validity::assigned;
+use crate::validity::rest_zero;
+use crate::validity::valid_capability;
+use crate::validity::valid_configuration;
 use crate::validity::valid_only;
 ghost use mathlib.Core.Path.{_≡_};
+ghost use mathlib.Core.Bool.{true};
 ghost use Prim.Native.Nat.{_+_, _≤_};
 ghost use lib.ListN.{length};
-ghost use Rattle.codec.specs.Records.{capabilities, configurations, response, only, setRecord};
-ghost use Rattle.codec.specs.NormalForm.{normal};
+ghost use Rattle.codec.specs.Message.{assigned};
+ghost use Rattle.codec.specs.Records.{capabilities, configurations, response, only, settings, withoutBlocks, setRecord};
 ghost use Rattle.codec.specs.Writing.{Writes};
-ghost use Rattle.codec.specs.Puts.{Put, head, columnOctets, LongCapability, LongConfiguration, LongRecord, Fit};
+ghost use Rattle.codec.specs.Puts.{Put, head, columnOctets, LongCapability, LongConfiguration, Fit};
 
 // How many octets the blocks of a set take in message 1.
 fn size_capability(set: u16, c: Capability) -> usize
@@ -47,20 +51,6 @@ fn size_configuration(set: u16, c: Configuration) -> usize
     let nan = nan::size_configuration(has(set, 2), c.nan);
     let rssi = rssi::size_block(has(set, 3), c.rssi);
     uwb + (cs + (nan + rssi))
-}
-
-// How many octets a record's normal form takes.
-fn size_message(value: Record) -> usize
-    requires { ⌜ Fit (value .configuration) ⌝ }
-    ensures { λ r. ⌜ (r ≡ length (normal value)) × LongRecord value ⌝ }
-{
-    if value.id == 1 {
-        return 4 + size_capability(value.set, value.capability);
-    }
-    if value.id == 2 {
-        return 6 + size_configuration(value.set, value.configuration);
-    }
-    4
 }
 
 // Writes the blocks of a set in message 1.
@@ -97,22 +87,6 @@ fn put_head(id: u8, set: u16, out: &mut [u8]) -> usize
     put_u16(out, first, set)
 }
 
-// Writes a record's normal form.
-fn put_message(value: Record, out: &mut [u8]) -> usize
-    requires { ⌜ (length (normal value) ≤ length (now out)) × LongRecord value × Fit (value .configuration) ⌝ }
-    ensures { λ r. ⌜ Put (now (out .entry)) 0 (normal value) (now (out .exit)) r ⌝ }
-{
-    let next = put_head(value.id, value.set, out);
-    if value.id == 1 {
-        return put_capability(value.set, value.capability, out, next);
-    }
-    if value.id == 2 {
-        let blocks = put_u16(out, next, value.set);
-        return put_configuration(value.set, value.configuration, out, blocks);
-    }
-    next
-}
-
 fn refused(number: u8) -> Written
     ensures { λ r. ⌜ r ≡ record { refusal = number; length = 0 } ⌝ }
 {
@@ -120,21 +94,6 @@ fn refused(number: u8) -> Written
         refusal: number,
         length: 0,
     }
-}
-
-// Writes a record: a record that is not valid and then a buffer that is too short are refused, and the buffer stays.
-pub fn write(value: Record, out: &mut [u8]) -> Written
-    ensures { λ r. ⌜ Writes value (now (out .entry)) r (now (out .exit)) ⌝ }
-{
-    if !valid(value) {
-        return refused(NOT_VALID);
-    }
-    let length = size_message(value);
-    if out.len() < length {
-        return refused(BUFFER_TOO_SHORT);
-    }
-    put_message(value, out);
-    Written { refusal: 0, length }
 }
 
 // Writes a Capability Response with those of these blocks that the set names, as `write` does.
@@ -153,9 +112,27 @@ pub fn write_response(set: u16, c: Capability, out: &mut [u8]) -> Written
     Written { refusal: 0, length }
 }
 
-// Writes a message that carries a set and nothing else, as `write` does.
-pub fn write_set(message: SetMessage, set: u16, out: &mut [u8]) -> Written
-    ensures { λ r. ⌜ Writes (setRecord message set) (now (out .entry)) r (now (out .exit)) ⌝ }
+// Writes a Configuration with these blocks, as `write` does.
+fn write_settings(set: u16, c: Configuration, out: &mut [u8]) -> Written
+    ensures { λ r. ⌜ Writes (settings set c) (now (out .entry)) r (now (out .exit)) ⌝ }
+{
+    if !((set < 16) & valid_configuration(set, c)) {
+        return refused(NOT_VALID);
+    }
+    let length = 6 + size_configuration(set, c);
+    if out.len() < length {
+        return refused(BUFFER_TOO_SHORT);
+    }
+    let again = put_head(2, set, out);
+    let blocks = put_u16(out, again, set);
+    put_configuration(set, c, out, blocks);
+    Written { refusal: 0, length }
+}
+
+// Writes a message without blocks, as `write` does.
+fn write_without_blocks(id: u8, set: u16, out: &mut [u8]) -> Written
+    requires { ⌜ (assigned id ≡ true) × (id ≡ 1 → ⊥) × (id ≡ 2 → ⊥) ⌝ }
+    ensures { λ r. ⌜ Writes (withoutBlocks id set) (now (out .entry)) r (now (out .exit)) ⌝ }
 {
     if set >= 16 {
         return refused(NOT_VALID);
@@ -163,9 +140,40 @@ pub fn write_set(message: SetMessage, set: u16, out: &mut [u8]) -> Written
     if out.len() < 4 {
         return refused(BUFFER_TOO_SHORT);
     }
-    put_head(message_id(message), set, out);
+    put_head(id, set, out);
     Written {
         refusal: 0,
         length: 4,
     }
+}
+
+// Writes a message that carries a set and nothing else, as `write` does.
+pub fn write_set(message: SetMessage, set: u16, out: &mut [u8]) -> Written
+    ensures { λ r. ⌜ Writes (setRecord message set) (now (out .entry)) r (now (out .exit)) ⌝ }
+{
+    write_without_blocks(message_id(message), set, out)
+}
+
+// Writes a record: a record that is not valid and then a buffer that is too short are refused, and the buffer stays. What a
+// message does not use has to be zero; the rest is tested where it is written.
+pub fn write(value: Record, out: &mut [u8]) -> Written
+    ensures { λ r. ⌜ Writes value (now (out .entry)) r (now (out .exit)) ⌝ }
+{
+    if value.id == 1 {
+        let rest = rest_zero(value.set, value.capability);
+        if !(rest & valid_configuration(0, value.configuration)) {
+            return refused(NOT_VALID);
+        }
+        return write_response(value.set, value.capability, out);
+    }
+    if !valid_capability(0, value.capability) {
+        return refused(NOT_VALID);
+    }
+    if value.id == 2 {
+        return write_settings(value.set, value.configuration, out);
+    }
+    if !(assigned(value.id) & valid_configuration(0, value.configuration)) {
+        return refused(NOT_VALID);
+    }
+    write_without_blocks(value.id, value.set, out)
 }

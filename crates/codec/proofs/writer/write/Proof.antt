@@ -1,47 +1,105 @@
-use Rattle.codec.proofs.Pieces.{fit, not-valid, too-short, was-written}
+use Rattle.codec.proofs.Pieces.{not-valid, as-response, as-settings, as-bare}
+use Rattle.codec.proofs.ValidCases.{rest-used, capability-used, configuration-used}
+use Rattle.codec.proofs.Outcomes.{and-true}
 use Rattle.codec.proofs.Laws.{failed, passed}
-use native.Mathlib.Omega.{arith}
+use Rattle.codec.specs.Message.{assigned}
+use Rattle.codec.specs.Puts.{restZero}
+use Rattle.codec.specs.Records.{configurations}
+use Rattle.codec.specs.Valid.{validColumn}
+use mathlib.Core.Bool.{_&&_}
+use mathlib.Core.Path.{_≡_}
 use borrow.Author.Needs.{needs}
 use Rattle.codec.proofs.writer.write.Statement.{statement}
 use Rattle.codec.proofs.writer.write.Tie as tie
 
-valid-requires : tie.Need-valid-requires
-valid-requires c κs = search needs
+-- what the tests of what is not used say
+rest : (c : tie.After-valid-configuration) → (c .before .rest-zero .result && c .valid-configuration .result) ≡ (restZero (c .before .before .before .before .before .args .value .set) (c .before .before .before .before .before .args .value .capability) && validColumn configurations 0 (c .before .before .before .before .before .args .value .configuration))
+rest c = rw (c .before .rest-zero .ensures, c .valid-configuration .ensures)
+
+other : (c : tie.After-valid-configuration2) → (c .before .assigned .result && c .valid-configuration2 .result) ≡ (assigned (c .before .before .before .before .before .before .before .before .before .args .value .id) && validColumn configurations 0 (c .before .before .before .before .before .before .before .before .before .args .value .configuration))
+other c = rw (c .before .assigned .ensures, c .valid-configuration2 .ensures)
+
+rest-zero-requires : tie.Need-rest-zero-requires
+rest-zero-requires c κs = search needs
+
+valid-configuration-requires : tie.Need-valid-configuration-requires
+valid-configuration-requires c κs = search needs
 
 refused-requires : tie.Need-refused-requires
 refused-requires c κs = search needs
 
 returns : tie.Need-returns
-returns c = rw (c .refused .ensures) (not-valid (c .before .before .before .before .args .value) (c .before .before .before .before .args .out .now) (failed (c .before .before .valid .ensures) (c .before .if1 .taken)))
+returns c = rw (c .refused .ensures) (not-valid (c .before .before .before .before .before .before .before .args .value) (c .before .before .before .before .before .before .before .args .out .now) (rest-used _ (c .before .before .before .before .if1 .taken) (failed (rest (c .before .before)) (c .before .if2 .taken))))
 
-size-message-requires : tie.Need-size-message-requires
-size-message-requires c κs = fit (c .before .before .before .args .value) (passed (c .before .valid .ensures) (c .if1 .left))
-
-refused-requires-2 : tie.Need-refused-requires-2
-refused-requires-2 c κs = search needs
-
-returns-2 : tie.Need-returns-2
-returns-2 c = rw (c .refused2 .ensures) (too-short (c .before .before .before .before .before .before .args .value) (c .before .before .before .before .before .before .args .out .now) (passed (c .before .before .before .before .valid .ensures) (c .before .before .before .if1 .left)) (omega (arith, c .before .before .size-message .ensures .0, c .before .if2 .taken)))
-
-put-message-requires : tie.Need-put-message-requires
-put-message-requires c κs = (omega (arith, c .before .before .size-message .ensures .0, c .before .if2 .left), c .before .before .size-message .ensures .1, fit (c .before .before .before .before .before .before .args .value) (passed (c .before .before .before .before .valid .ensures) (c .before .before .before .if1 .left)))
+write-response-requires : tie.Need-write-response-requires
+write-response-requires c κs = search needs
 
 same-length : tie.Need-same-length
 same-length c = search needs
 
+returns-2 : tie.Need-returns-2
+returns-2 c = as-response (c .before .before .before .before .before .before .before .before .before .before .args .value) (c .before .before .before .before .before .before .before .before .before .before .args .out .now) (c .before .before .before .before .before .before .before .if1 .taken) (passed (rest (c .before .before .before .before .before)) (c .before .before .before .before .if2 .left)) (c .before .before .write-response .ensures)
+
+valid-capability-requires : tie.Need-valid-capability-requires
+valid-capability-requires c κs = search needs
+
+refused-requires-2 : tie.Need-refused-requires-2
+refused-requires-2 c κs = search needs
+
 returns-3 : tie.Need-returns-3
-returns-3 c = was-written (c .before .before .before .before .before .before .before .before .before .args .value) (c .before .before .before .before .before .before .before .before .before .args .out .now) (passed (c .before .before .before .before .before .before .before .valid .ensures) (c .before .before .before .before .before .before .if1 .left)) (omega (arith, c .before .before .before .before .before .size-message .ensures .0, c .before .before .before .before .if2 .left)) _ (c .before .before .before .before .before .size-message .ensures .0) (c .before .before .put-message .ensures)
+returns-3 c = rw (c .refused2 .ensures) (not-valid (c .before .before .before .before .before .before .args .value) (c .before .before .before .before .before .before .args .out .now) (capability-used _ (c .before .before .before .if1 .left) (failed (c .before .before .valid-capability .ensures) (c .before .if3 .taken))))
+
+write-settings-requires : tie.Need-write-settings-requires
+write-settings-requires c κs = search needs
+
+same-length-2 : tie.Need-same-length-2
+same-length-2 c = search needs
+
+returns-4 : tie.Need-returns-4
+returns-4 c = as-settings (c .before .before .before .before .before .before .before .before .before .before .before .args .value) (c .before .before .before .before .before .before .before .before .before .before .before .args .out .now) (c .before .before .before .before .before .before .before .before .if1 .left) (passed (c .before .before .before .before .before .before .before .valid-capability .ensures) (c .before .before .before .before .before .before .if3 .left)) (c .before .before .before .before .if4 .taken) (c .before .before .write-settings .ensures)
+
+assigned-requires : tie.Need-assigned-requires
+assigned-requires c κs = search needs
+
+valid-configuration-requires-2 : tie.Need-valid-configuration-requires-2
+valid-configuration-requires-2 c κs = search needs
+
+refused-requires-3 : tie.Need-refused-requires-3
+refused-requires-3 c κs = search needs
+
+returns-5 : tie.Need-returns-5
+returns-5 c = rw (c .refused3 .ensures) (not-valid (c .before .before .before .before .before .before .before .before .before .before .before .args .value) (c .before .before .before .before .before .before .before .before .before .before .before .args .out .now) (configuration-used _ (c .before .before .before .before .before .before .before .before .if1 .left) (passed (c .before .before .before .before .before .before .before .valid-capability .ensures) (c .before .before .before .before .before .before .if3 .left)) (c .before .before .before .before .if4 .left) (failed (other (c .before .before)) (c .before .if5 .taken))))
+
+write-without-blocks-requires : tie.Need-write-without-blocks-requires
+write-without-blocks-requires c κs = (and-true (assigned (c .before .before .before .before .before .before .before .before .before .before .before .args .value .id)) _ (passed (other (c .before .before)) (c .before .if5 .left)) .0, c .before .before .before .before .before .before .before .before .if1 .left, c .before .before .before .before .if4 .left)
+
+same-length-3 : tie.Need-same-length-3
+same-length-3 c = search needs
+
+returns-6 : tie.Need-returns-6
+returns-6 c = as-bare (c .before .before .before .before .before .before .before .before .before .before .before .before .before .before .args .value) (c .before .before .before .before .before .before .before .before .before .before .before .before .before .before .args .out .now) (c .before .before .before .before .before .before .before .before .before .before .before .if1 .left) (passed (c .before .before .before .before .before .before .before .before .before .before .valid-capability .ensures) (c .before .before .before .before .before .before .before .before .before .if3 .left)) (c .before .before .before .before .before .before .before .if4 .left) (passed (other (c .before .before .before .before .before)) (c .before .before .before .before .if5 .left)) (c .before .before .write-without-blocks .ensures)
 
 pub write-spec : {M : Type 1} → statement M
 write-spec =
     tie.close
     (tie.spec
-    valid-requires
+    rest-zero-requires
+    valid-configuration-requires
     refused-requires
     returns
-    size-message-requires
-    refused-requires-2
-    returns-2
-    put-message-requires
+    write-response-requires
     same-length
-    returns-3)
+    returns-2
+    valid-capability-requires
+    refused-requires-2
+    returns-3
+    write-settings-requires
+    same-length-2
+    returns-4
+    assigned-requires
+    valid-configuration-requires-2
+    refused-requires-3
+    returns-5
+    write-without-blocks-requires
+    same-length-3
+    returns-6)
