@@ -70,8 +70,7 @@ pub struct Started {
 pub(crate) fn no_uwb() -> UwbState
     ensures { λ r. ⌜ r ≡ noUwb ⌝ }
 {
-    let zero = codec::zero_configuration();
-    let settings = zero.uwb;
+    let settings = codec::zero_uwb();
     UwbState {
         ranging: 0,
         settings,
@@ -81,8 +80,7 @@ pub(crate) fn no_uwb() -> UwbState
 pub(crate) fn no_nan() -> NanState
     ensures { λ r. ⌜ r ≡ noNan ⌝ }
 {
-    let zero = codec::zero_configuration();
-    let settings = zero.nan;
+    let settings = codec::zero_nan();
     NanState {
         ranging: 0,
         settings,
@@ -92,8 +90,7 @@ pub(crate) fn no_nan() -> NanState
 pub(crate) fn no_rssi() -> RssiState
     ensures { λ r. ⌜ r ≡ noRssi ⌝ }
 {
-    let zero = codec::zero_configuration();
-    let settings = zero.rssi;
+    let settings = codec::zero_rssi();
     RssiState {
         ranging: 0,
         settings,
