@@ -11,7 +11,7 @@ use Rattle.codec.specs.Octets.{toLE, allZero}
 use Rattle.codec.specs.Layout.{Layout, number, octets, counted, test, spelled, Values, allowed, cleared, zeroed}
 use Rattle.codec.specs.Blocks.{uwbCapability, csCapability, nanCapability, rssiBlock, uwbConfiguration, csConfiguration, nanConfiguration}
 use Rattle.codec.specs.Technology.{bit}
-use Rattle.codec.specs.Records.{Column, capabilities, configurations, ofUwbCapability, ofCsCapability, ofNanCapability, ofRssi, ofConfiguration, blank, response, only, settings, withoutBlocks}
+use Rattle.codec.specs.Records.{Column, capabilities, configurations, ofUwbCapability, ofCsCapability, ofNanCapability, ofRssi, ofConfiguration, blank, response, only, settings, withoutBlocks, messageId, setRecord}
 use Rattle.codec.specs.Message.{assigned}
 use Rattle.codec.specs.Valid.{validFields, validColumn, valid}
 use Rattle.codec.specs.NormalForm.{block, rising, columnBlocks, normal}
@@ -20,11 +20,12 @@ use Rattle.codec.specs.Puts.{over, Put, blockIf, head, columnOctets, Siz
 use Rattle.codec.specs.declared.records.Capability.{Capability}
 use Rattle.codec.specs.declared.records.Configuration.{Configuration}
 use Rattle.codec.specs.declared.records.Record.{Record}
+use Rattle.codec.specs.declared.records.SetMessage.{SetMessage}
 use Rattle.codec.specs.declared.records.Written.{Written}
 use Rattle.codec.proofs.Outcomes.{and-true}
 use Rattle.codec.proofs.Layouts.{fits, within, within-le}
 use Rattle.codec.proofs.Puts.{put-then}
-use Rattle.codec.proofs.ValidCases.{only-of, settings-of, bare-valid, bare-of}
+use Rattle.codec.proofs.ValidCases.{set-assigned, only-of, settings-of, bare-valid, bare-of}
 
 pub cond-le : (b : Bool) (n : ℕ) → cond b n 0 ≤ n
 cond-le true n = omega arith
@@ -149,6 +150,9 @@ put-settings set c p = rw (normal-settings set c) p
 
 pub normal-bare : (id set : ℕ) → (id ≡ 1 → ⊥) → (id ≡ 2 → ⊥) → normal (withoutBlocks id set) ≡ head id set
 normal-bare id set n m = normal-other (withoutBlocks id set) n m
+
+pub normal-set : (message : SetMessage) (set : ℕ) → normal (setRecord message set) ≡ head (messageId message) set
+normal-set message set = let a = set-assigned message in normal-bare (messageId message) set (a .1) (a .2)
 
 pub put-bare : (id set : ℕ) → (id ≡ 1 → ⊥) → (id ≡ 2 → ⊥) → {d e : List ℕ} {next : ℕ} → Put d 0 (head id set) e next → Put d 0 (normal (withoutBlocks id set)) e next
 put-bare id set n m p = rw (normal-bare id set n m) p

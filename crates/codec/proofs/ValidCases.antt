@@ -10,7 +10,7 @@ use Rattle.codec.specs.Layout.{zeroed}
 use Rattle.codec.specs.Technology.{bit}
 use Rattle.codec.specs.Blocks.{uwbCapability, csCapability, nanCapability, rssiBlock}
 use Rattle.codec.specs.Message.{assigned}
-use Rattle.codec.specs.Records.{capabilities, configurations, blank, response, only, settings, withoutBlocks, messageId, ofUwbCapability, ofCsCapability, ofNanCapability, ofRssi}
+use Rattle.codec.specs.Records.{capabilities, configurations, blank, response, only, settings, withoutBlocks, messageId, setRecord, ofUwbCapability, ofCsCapability, ofNanCapability, ofRssi}
 use Rattle.codec.specs.Valid.{validFields, validColumn, valid}
 use Rattle.codec.specs.Puts.{restZero}
 use Rattle.codec.specs.declared.records.Capability.{Capability}
@@ -66,6 +66,9 @@ set-assigned SetMessage.Request = (refl, λ e. omega arith, λ e. omega arith)
 set-assigned SetMessage.ConfigurationResponse = (refl, λ e. omega arith, λ e. omega arith)
 set-assigned SetMessage.Stop = (refl, λ e. omega arith, λ e. omega arith)
 set-assigned SetMessage.StopResponse = (refl, λ e. omega arith, λ e. omega arith)
+
+pub set-valid : (message : SetMessage) (set : ℕ) → valid (setRecord message set) ≡ ltb set 16
+set-valid message set = let a = set-assigned message in bare-valid (messageId message) set (a .0) (a .1) (a .2)
 
 -- ---- a record's validity, with what its message does not use told apart
 

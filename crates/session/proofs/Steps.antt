@@ -6,12 +6,12 @@ use mathlib.Core.Option.{none, some}
 use mathlib.Core.Bool.{Bool, true, false, cond, not, _&&_, _||_, and-true as with-true, and-false, true≢false}
 use lib.Dec.{eqb, ltb, leb}
 use lib.ListN.{length}
-use borrow.Author.Tests.{lt-ltb, le-leb, ne-eqb}
+use borrow.Author.Tests.{lt-ltb, le-leb, ne-eqb, eqb-true}
 use Rattle.codec.specs.Layout.{Layout, Values}
 use Rattle.codec.specs.Refusal.{Checked, refuse, accept, demand, notValid}
 use Rattle.codec.specs.Blocks.{uwbCapability, csCapability, nanCapability}
 use Rattle.codec.specs.Technology.{bit}
-use Rattle.codec.specs.Records.{capabilities, response, setRecord, accepted, answer, forTag, ofUwbCapability, ofCsCapability, ofNanCapability}
+use Rattle.codec.specs.Records.{capabilities, configurations, response, only, setRecord, accepted, answer, forTag, ofUwbCapability, ofCsCapability, ofNanCapability}
 use Rattle.codec.specs.Message.{reading}
 use Rattle.codec.specs.Valid.{validFields, validColumn, valid}
 use Rattle.codec.specs.Writing.{writing, Writes}
@@ -21,7 +21,7 @@ use Rattle.codec.specs.declared.records.TagReading.{TagReading}
 use Rattle.codec.specs.declared.records.SetMessage.{SetMessage}
 use Rattle.codec.specs.declared.records.Written.{Written}
 use Rattle.codec.proofs.Outcomes.{by-bool, and-true, no-zero}
-use Rattle.codec.proofs.ValidCases.{response-valid, only-valid, set-valid}
+use Rattle.codec.proofs.ValidCases.{response-valid, only-valid, set-valid, response-of}
 use Rattle.session.specs.declared.state.Profile.{Profile}
 use Rattle.session.specs.declared.state.Session.{Session}
 use Rattle.session.specs.declared.state.Step.{Step}
@@ -76,6 +76,13 @@ module _ (p : Profile) (wanted : Technology → Bool) (v : validProfile p ≡ tr
         chosen uwbCapability (ofUwbCapability (k .uwb)) (f uwb) _ (has uwb) (u .0),
         chosen nanCapability (ofNanCapability (k .nan)) (f nan) _ (has nan) (n .0),
       )
+
+-- the blocks that the code chooses, by the bits of two sets
+pub capabilities-delivered : (p : Profile) (wanted : ℕ) {set : ℕ} {b e : List ℕ} {w : Written} → validProfile p ≡ true
+    → set ≡ cond (bit wanted 0 && bit (p .set) 0) 1 0 + (cond (bit wanted 1 && bit (p .set) 1) 2 0 + (cond (bit wanted 2 && bit (p .set) 2) 4 0 + cond (bit wanted 3 && bit (p .set) 3) 8 0))
+    → Writes (response set (only set (p .capability))) b w e → Delivers (some (capabilityReply p (names wanted))) b w e
+unfolding shows
+capabilities-delivered p wanted v k h = delivered (reply-valid p (names wanted) v) (rw k at h)
 
 -- ---- and the call goes as the writer says
 
@@ -188,3 +195,7 @@ module _ (r : Record) (n : ℕ) where
   pub start-accepted : fits ≡ true → profileOf r n ≡ accept (record { set = r .set; replies = n; capability = r .capability })
   unfolding profileOf
   start-accepted h = let x = and-true (eqb (r .id) 1 && valid r) (ltb n 3) h in rw (x .0, x .1)
+
+-- what `start` tests
+pub start-tested : (r : Record) → ((eqb (r .id) 1 && valid (response (r .set) (r .capability))) && validColumn configurations 0 (r .configuration)) ≡ (eqb (r .id) 1 && valid r)
+start-tested r = by-bool (eqb (r .id) 1) (λ y. rw (y, response-of r (eqb-true (r .id) 1 y))) (λ n. rw n)

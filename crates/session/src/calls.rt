@@ -1,9 +1,9 @@
-// The calls: start, message, advertise.
-use crate::capabilities::deliver_capabilities;
+// The calls: start, message, advertise. They lend the capability to the writer from the session itself, so that it is not copied.
 use crate::capabilities::given_out;
 use crate::configuration::configure;
 use crate::replies::refused;
 use crate::replies::valid_profile;
+use crate::sets::common;
 use crate::state::Profile;
 use crate::state::Session;
 use crate::state::Started;
@@ -21,7 +21,8 @@ ghost use Rattle.session.specs.Session.{sessionCall, Gives, profileOf, s
 pub fn start(profile: Record, replies: u8) -> Started
     ensures { λ r. ⌜ r ≡ started (profileOf profile replies) ⌝ }
 {
-    if !((profile.id == 1) & codec::valid(profile) & (replies < 3)) {
+    let response = (profile.id == 1) & codec::valid_response(profile.set, profile.capability);
+    if !(response & codec::no_configuration(profile.configuration) & (replies < 3)) {
         return Started {
             session: fresh(Profile {
                 set: 0,
@@ -57,7 +58,8 @@ pub fn message(s: Session, octets: &[u8], out: &mut [u8]) -> Step
     let set = reading.set;
     match id {
         0 => {
-            let w = deliver_capabilities(s.profile, set, out);
+            let blocks = common(set, s.profile.set);
+            let w = codec::write_response(blocks, s.profile.capability, out);
             given_out(s, set, w)
         }
         2 => {
@@ -76,6 +78,7 @@ pub fn advertise(s: Session, out: &mut [u8]) -> Step
     if !valid_profile(s.profile) {
         return refused(s, NOT_VALID);
     }
-    let w = deliver_capabilities(s.profile, 15, out);
+    let blocks = common(15, s.profile.set);
+    let w = codec::write_response(blocks, s.profile.capability, out);
     given_out(s, 15, w)
 }

@@ -23,3 +23,13 @@ pub(crate) fn both_have(a: u16, b: u16, id: u8) -> bool
 {
     codec::has(a, id) & codec::has(b, id)
 }
+
+// The technologies in both of two sets.
+pub(crate) fn common(a: u16, b: u16) -> u16
+    ensures { λ r. ⌜ r ≡ cond (bit a 0 && bit b 0) 1 0 + (cond (bit a 1 && bit b 1) 2 0 + (cond (bit a 2 && bit b 2) 4 0 + cond (bit a 3 && bit b 3) 8 0)) ⌝ }
+{
+    let uwb = both_have(a, b, 0);
+    let cs = both_have(a, b, 1);
+    let nan = both_have(a, b, 2);
+    set_of(uwb, cs, nan, both_have(a, b, 3))
+}

@@ -2,16 +2,10 @@ use Rattle.session.specs.Session.{sessionKeeps}
 use Rattle.codec.proofs.Laws.{failed, passed}
 use Rattle.session.specs.Technology.{names}
 use Rattle.session.specs.Rules.{advertisement, giveOut}
-use Rattle.session.proofs.Steps.{not-valid, advertised, settled}
+use Rattle.session.proofs.Steps.{not-valid, advertised, settled, capabilities-delivered}
 use borrow.Author.Needs.{needs}
 use Rattle.session.proofs.calls.advertise.Statement.{statement}
 use Rattle.session.proofs.calls.advertise.Tie as tie
-use Rattle.session.proofs.calls.advertise.Reads as reads
-use Rattle.session.proofs.calls.advertise.Lts as lts
-use Rattle.session.proofs.capabilities.deliver_capabilities.Reads as deliver-capabilities-reads
-use Rattle.session.proofs.capabilities.given_out.Reads as given-out-reads
-use Rattle.session.proofs.replies.refused.Reads as refused-reads
-use Rattle.session.proofs.replies.valid_profile.Reads as valid-profile-reads
 
 valid-profile-requires : tie.Need-valid-profile-requires
 valid-profile-requires c κs = search needs
@@ -22,8 +16,11 @@ refused-requires c κs = search needs
 returns : tie.Need-returns
 returns c = rw (c .refused .ensures) (not-valid (c .before .before .before .before .args .s) (advertisement (c .before .before .before .before .args .out .now)) (c .before .before .before .before .args .out .now) (failed (c .before .before .valid-profile .ensures) (c .before .if1 .taken)))
 
-deliver-capabilities-requires : tie.Need-deliver-capabilities-requires
-deliver-capabilities-requires c κs = passed (c .before .before .valid-profile .ensures) (c .before .if1 .left)
+common-requires : tie.Need-common-requires
+common-requires c κs = search needs
+
+write-response-requires : tie.Need-write-response-requires
+write-response-requires c κs = search needs
 
 given-out-requires : tie.Need-given-out-requires
 given-out-requires c κs = search needs
@@ -32,7 +29,7 @@ same-length : tie.Need-same-length
 same-length c = search needs
 
 returns-2 : tie.Need-returns-2
-returns-2 c = rw (c .given-out .ensures) (advertised (c .before .before .before .before .before .before .before .before .args .s) (c .before .before .before .before .before .before .before .before .args .out .now) (passed (c .before .before .before .before .before .before .valid-profile .ensures) (c .before .before .before .before .before .if1 .left)) (settled (c .before .before .before .before .before .before .before .before .args .s) (giveOut sessionKeeps (c .before .before .before .before .before .before .before .before .args .s .profile) (names 15) (c .before .before .before .before .before .before .before .before .args .s)) (c .before .before .before .deliver-capabilities .ensures)))
+returns-2 c = rw (c .given-out .ensures) (advertised (c .before .before .before .before .before .before .before .before .before .args .s) (c .before .before .before .before .before .before .before .before .before .args .out .now) (passed (c .before .before .before .before .before .before .before .valid-profile .ensures) (c .before .before .before .before .before .before .if1 .left)) (settled (c .before .before .before .before .before .before .before .before .before .args .s) (giveOut sessionKeeps (c .before .before .before .before .before .before .before .before .before .args .s .profile) (names 15) (c .before .before .before .before .before .before .before .before .before .args .s)) (capabilities-delivered (c .before .before .before .before .before .before .before .before .before .args .s .profile) 15 (passed (c .before .before .before .before .before .before .before .valid-profile .ensures) (c .before .before .before .before .before .before .if1 .left)) (c .before .before .before .before .before .common .ensures) (c .before .before .before .write-response .ensures))))
 
 pub advertise-spec : {M : Type 1} → statement M
 advertise-spec =
@@ -41,7 +38,8 @@ advertise-spec =
     valid-profile-requires
     refused-requires
     returns
-    deliver-capabilities-requires
+    common-requires
+    write-response-requires
     given-out-requires
     same-length
     returns-2)

@@ -2,19 +2,10 @@ use Rattle.session.specs.Session.{sessionKeeps}
 use Rattle.codec.proofs.Laws.{failed, passed}
 use Rattle.session.specs.Technology.{names}
 use Rattle.session.specs.Rules.{message, giveOut}
-use Rattle.session.proofs.Steps.{not-valid, not-read, a-request, a-configuration, a-stop, another, settled}
+use Rattle.session.proofs.Steps.{not-valid, not-read, a-request, a-configuration, a-stop, another, settled, capabilities-delivered}
 use borrow.Author.Needs.{needs}
 use Rattle.session.proofs.calls.message.Statement.{statement}
 use Rattle.session.proofs.calls.message.Tie as tie
-use Rattle.session.proofs.calls.message.Reads as reads
-use Rattle.session.proofs.calls.message.Lts as lts
-use Rattle.codec.proofs.read_for_tag.Reads as read-for-tag-reads
-use Rattle.session.proofs.capabilities.deliver_capabilities.Reads as deliver-capabilities-reads
-use Rattle.session.proofs.capabilities.given_out.Reads as given-out-reads
-use Rattle.session.proofs.configuration.configure.Reads as configure-reads
-use Rattle.session.proofs.replies.refused.Reads as refused-reads
-use Rattle.session.proofs.replies.valid_profile.Reads as valid-profile-reads
-use Rattle.session.proofs.stop.halt.Reads as halt-reads
 
 valid-profile-requires : tie.Need-valid-profile-requires
 valid-profile-requires c κs = search needs
@@ -34,8 +25,11 @@ refused-requires-2 c κs = search needs
 returns-2 : tie.Need-returns-2
 returns-2 c = rw (c .refused2 .ensures) (not-read (c .before .before .before .before .before .before .before .before .args .s) (c .before .before .before .before .before .before .before .before .args .octets .now) (c .before .before .before .before .before .before .before .before .args .out .now) (passed (c .before .before .before .before .before .valid-profile .ensures) (c .before .before .before .before .if1 .left)) (c .before .before .before .read-for-tag .ensures) (c .before .if2 .taken))
 
-deliver-capabilities-requires : tie.Need-deliver-capabilities-requires
-deliver-capabilities-requires c κs = passed (c .before .before .before .before .before .before .valid-profile .ensures) (c .before .before .before .before .before .if1 .left)
+common-requires : tie.Need-common-requires
+common-requires c κs = search needs
+
+write-response-requires : tie.Need-write-response-requires
+write-response-requires c κs = search needs
 
 given-out-requires : tie.Need-given-out-requires
 given-out-requires c κs = search needs
@@ -53,7 +47,7 @@ same-length : tie.Need-same-length
 same-length c = search needs
 
 returns-3 : tie.Need-returns-3
-returns-3 c = rw (c .given-out .ensures) (a-request (c .before .before .before .before .before .before .before .before .before .before .before .before .before .args .s) (c .before .before .before .before .before .before .before .before .before .before .before .before .before .args .octets .now) (c .before .before .before .before .before .before .before .before .before .before .before .before .before .args .out .now) (passed (c .before .before .before .before .before .before .before .before .before .before .valid-profile .ensures) (c .before .before .before .before .before .before .before .before .before .if1 .left)) (c .before .before .before .before .before .before .before .before .read-for-tag .ensures) (c .before .before .before .before .before .before .if2 .left) (c .before .before .before .before .before .match .keys1) (settled (c .before .before .before .before .before .before .before .before .before .before .before .before .before .args .s) (giveOut sessionKeeps (c .before .before .before .before .before .before .before .before .before .before .before .before .before .args .s .profile) (names (c .before .before .before .before .before .before .before .before .read-for-tag .result .set)) (c .before .before .before .before .before .before .before .before .before .before .before .before .before .args .s)) (c .before .before .before .deliver-capabilities .ensures)))
+returns-3 c = rw (c .given-out .ensures) (a-request (c .before .before .before .before .before .before .before .before .before .before .before .before .before .before .args .s) (c .before .before .before .before .before .before .before .before .before .before .before .before .before .before .args .octets .now) (c .before .before .before .before .before .before .before .before .before .before .before .before .before .before .args .out .now) (passed (c .before .before .before .before .before .before .before .before .before .before .before .valid-profile .ensures) (c .before .before .before .before .before .before .before .before .before .before .if1 .left)) (c .before .before .before .before .before .before .before .before .before .read-for-tag .ensures) (c .before .before .before .before .before .before .before .if2 .left) (c .before .before .before .before .before .before .match .keys1) (settled (c .before .before .before .before .before .before .before .before .before .before .before .before .before .before .args .s) (giveOut sessionKeeps (c .before .before .before .before .before .before .before .before .before .before .before .before .before .before .args .s .profile) (names (c .before .before .before .before .before .before .before .before .before .read-for-tag .result .set)) (c .before .before .before .before .before .before .before .before .before .before .before .before .before .before .args .s)) (capabilities-delivered (c .before .before .before .before .before .before .before .before .before .before .before .before .before .before .args .s .profile) (c .before .before .before .before .before .before .before .before .before .read-for-tag .result .set) (passed (c .before .before .before .before .before .before .before .before .before .before .before .valid-profile .ensures) (c .before .before .before .before .before .before .before .before .before .before .if1 .left)) (c .before .before .before .before .before .common .ensures) (c .before .before .before .write-response .ensures))))
 
 same-length-2 : tie.Need-same-length-2
 same-length-2 c = search needs
@@ -80,7 +74,8 @@ message-spec =
     read-for-tag-requires
     refused-requires-2
     returns-2
-    deliver-capabilities-requires
+    common-requires
+    write-response-requires
     given-out-requires
     configure-requires
     halt-requires

@@ -1,14 +1,21 @@
-use mathlib.Core.Path.{ap}
-use mathlib.Core.Bool.{Bool, _&&_}
+use mathlib.Core.Path.{_≡_}
+use mathlib.Core.Bool.{_&&_}
 use lib.Dec.{eqb, ltb}
+use Rattle.codec.specs.Valid.{valid}
 use Rattle.codec.proofs.Laws.{failed, passed}
-use Rattle.session.proofs.Steps.{start-refused, start-accepted}
+use Rattle.session.proofs.Steps.{start-tested, start-refused, start-accepted}
 use borrow.Author.Needs.{needs}
 use Rattle.session.proofs.calls.start.Statement.{statement}
 use Rattle.session.proofs.calls.start.Tie as tie
 
-valid-requires : tie.Need-valid-requires
-valid-requires c κs = search needs
+tested : (c : tie.After-no-configuration) → (((eqb (c .before .before .before .args .profile .id) 1 && c .before .valid-response .result) && c .no-configuration .result) && ltb (c .before .before .before .args .replies) 3) ≡ ((eqb (c .before .before .before .args .profile .id) 1 && valid (c .before .before .before .args .profile)) && ltb (c .before .before .before .args .replies) 3)
+tested c = rw (c .before .valid-response .ensures, c .no-configuration .ensures, start-tested (c .before .before .before .args .profile))
+
+valid-response-requires : tie.Need-valid-response-requires
+valid-response-requires c κs = search needs
+
+no-configuration-requires : tie.Need-no-configuration-requires
+no-configuration-requires c κs = search needs
 
 zero-capability-requires : tie.Need-zero-capability-requires
 zero-capability-requires c κs = search needs
@@ -17,23 +24,20 @@ fresh-requires : tie.Need-fresh-requires
 fresh-requires c κs = search needs
 
 returns : tie.Need-returns
-returns c = let r = c .before .before .before .before .before .args .profile in
-    let n = c .before .before .before .before .before .args .replies in
-    rw (c .fresh .ensures, c .before .zero-capability .ensures, start-refused r n (failed (ap (λ (v : Bool). (eqb (r .id) 1 && v) && ltb n 3) (c .before .before .before .valid .ensures)) (c .before .before .if1 .taken)))
+returns c = rw (c .fresh .ensures, c .before .zero-capability .ensures, start-refused (c .before .before .before .before .before .before .args .profile) (c .before .before .before .before .before .before .args .replies) (failed (tested (c .before .before .before)) (c .before .before .if1 .taken)))
 
 fresh-requires-2 : tie.Need-fresh-requires-2
 fresh-requires-2 c κs = search needs
 
 returns-2 : tie.Need-returns-2
-returns-2 c = let r = c .before .before .before .before .before .args .profile in
-    let n = c .before .before .before .before .before .args .replies in
-    rw (c .fresh2 .ensures, start-accepted r n (passed (ap (λ (v : Bool). (eqb (r .id) 1 && v) && ltb n 3) (c .before .before .before .valid .ensures)) (c .before .before .if1 .left)))
+returns-2 c = rw (c .fresh2 .ensures, start-accepted (c .before .before .before .before .before .before .args .profile) (c .before .before .before .before .before .before .args .replies) (passed (tested (c .before .before .before)) (c .before .before .if1 .left)))
 
 pub start-spec : {M : Type 1} → statement M
 start-spec =
     tie.close
     (tie.spec
-    valid-requires
+    valid-response-requires
+    no-configuration-requires
     zero-capability-requires
     fresh-requires
     returns

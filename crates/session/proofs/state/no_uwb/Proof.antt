@@ -2,11 +2,11 @@ use borrow.Author.Needs.{needs}
 use Rattle.session.proofs.state.no_uwb.Statement.{statement}
 use Rattle.session.proofs.state.no_uwb.Tie as tie
 
-zero-configuration-requires : tie.Need-zero-configuration-requires
-zero-configuration-requires c κs = search needs
+zero-uwb-requires : tie.Need-zero-uwb-requires
+zero-uwb-requires c κs = search needs
 
 returns : tie.Need-returns
-returns c = rw (c .before .zero-configuration .ensures)
+returns c = rw (c .zero-uwb .ensures)
 
 pub no-uwb-spec : {M : Type 1} → statement M
-no-uwb-spec = tie.close (tie.spec zero-configuration-requires returns)
+no-uwb-spec = tie.close (tie.spec zero-uwb-requires returns)
