@@ -1,9 +1,10 @@
 /* Measures a read or write of one message by the proved library or by the second implementation.
 
-   codec proved|second read|write NAME          calls it once, for callgrind to count its instructions
+   codec call proved|second read|write NAME     calls it once, for callgrind to count its instructions; prints how many calls
    codec stack proved|second read|write NAME    prints how many octets of stack the call used, beside its arguments and result
+   codec time proved|second read|write NAME     prints how many picoseconds a call takes, the best of five runs
 
-   NAME is request, response, configuration, or sixteen (a Capability Response of sixteen blocks). */
+   measure.h has the names. */
 #include "measure.h"
 
 size_t second_write(const struct second_reading *value, uint8_t *out, size_t length);
@@ -33,30 +34,41 @@ static __typeof__(no_write) *volatile write = raydulcimer_write;
 static __typeof__(no_second_read) *volatile read_second = second_read;
 static __typeof__(no_second_write) *volatile write_second = second_write;
 
+static void nothing(void) {}
 static void call_read(void) { reading = read(message, length); }
 static void call_write(void) { written = write(reading.value, out, sizeof out); }
 static void call_second_read(void) { second = read_second(message, length); }
 static void call_second_write(void) { written.length = write_second(&second, out, sizeof out); }
 
+static void (*measured)(void);
+static int calls;
+static void call_mixed(void) { calls = mixed(measured); }
+
 int main(int argc, char **argv)
 {
-    int stacked = argc == 5 && !strcmp(argv[1], "stack");
-    if (argc != 4 + stacked || !choose(argv[3 + stacked])) {
-        fprintf(stderr, "usage: codec [stack] proved|second read|write request|response|configuration|sixteen\n");
+    int many = argc == 5 && !strcmp(argv[4], "mixed");
+    if (argc != 5 || !(many || choose(argv[4]))) {
+        fprintf(stderr, "usage: codec call|stack|time proved|second read|write NAME\n");
         return 2;
     }
-    int proved = !strcmp(argv[1 + stacked], "proved");
+    int proved = !strcmp(argv[2], "proved");
     void (*call)(void) = proved ? call_read : call_second_read;
-    if (!strcmp(argv[2 + stacked], "write")) {
+    if (!strcmp(argv[3], "write")) {
         call();
         call = proved ? call_write : call_second_write;
     }
-    if (stacked) {
-        size_t full = used(call);
+    measured = call;
+    void (*all)(void) = many ? call_mixed : call;
+    if (!strcmp(argv[1], "stack")) {
+        size_t full = used(all);
         read = no_read, write = no_write, read_second = no_second_read, write_second = no_second_write;
-        printf("%zu\n", full - used(call));
+        printf("%zu\n", full - used(all));
+    } else if (!strcmp(argv[1], "time")) {
+        all();
+        printf("%ld\n", many ? clocked(nothing, all, 1000) / calls : clocked(nothing, all, 200000));
     } else {
-        call();
+        all();
+        printf("%d\n", many ? calls : 1);
     }
-    return reading.refusal != 0 || written.refusal != 0;
+    return !many && (reading.refusal != 0 || written.refusal != 0);
 }

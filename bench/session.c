@@ -1,10 +1,11 @@
 /* Measures a call of a session with all four technologies, by the proved library or by the second implementation.
 
-   session proved|second CALL          makes the call once, for callgrind to count its instructions
+   session call proved|second CALL     makes the call once, for callgrind to count its instructions
    session stack proved|second CALL    prints how many octets of stack the call used, beside its arguments and result
+   session time proved|second CALL     prints how many picoseconds the call takes, the best of five runs
 
-   CALL is request, configuration, stop (with three technologies ranging), sixteen (a Capability Response with as many blocks,
-   which is walked before it is refused), or advertisement. */
+   CALL is advertisement, or the message of a name of measure.h: before a Stop three technologies are ranging, and a Capability
+   Response is walked before it is refused. */
 #include "measure.h"
 
 struct second_session {
@@ -70,28 +71,36 @@ static void begin(const char *call)
     }
 }
 
+/* Each call of a run finds the same session. */
+static struct raydulcimer_session first;
+static struct second_session second_first;
+static void restore(void) { session = first; }
+static void restore_second(void) { second = second_first; }
+
 int main(int argc, char **argv)
 {
-    int stacked = argc == 4 && !strcmp(argv[1], "stack");
-    int known = argc == 3 + stacked;
-    const char *name = known ? argv[2 + stacked] : "";
-    int advertisement = !strcmp(name, "advertisement");
-    if (!known || !(advertisement || choose(name))) {
-        fprintf(stderr, "usage: session [stack] proved|second request|configuration|stop|sixteen|advertisement\n");
+    const char *word = argc == 4 ? argv[3] : "";
+    int advertisement = !strcmp(word, "advertisement");
+    if (argc != 4 || !(advertisement || choose(word))) {
+        fprintf(stderr, "usage: session call|stack|time proved|second CALL\n");
         return 2;
     }
-    begin(name);
-    if (!advertisement) choose(name);
-    int proved = !strcmp(argv[1 + stacked], "proved");
+    begin(word);
+    if (!advertisement) choose(word);
+    int proved = !strcmp(argv[2], "proved");
     void (*call)(void) = proved ? (advertisement ? call_advertise : call_message)
                                 : (advertisement ? call_second_advertise : call_second_message);
-    if (stacked) {
+    if (!strcmp(argv[1], "stack")) {
         size_t full = used(call);
         give = no_message, advertise = no_advertise;
         give_second = no_second_message, advertise_second = no_second_advertise;
         printf("%zu\n", full - used(call));
+    } else if (!strcmp(argv[1], "time")) {
+        first = session, second_first = second;
+        printf("%ld\n", clocked(proved ? restore : restore_second, call, 200000));
     } else {
         call();
+        puts("1");
     }
-    return said.refusal != (strcmp(name, "sixteen") ? RAYDULCIMER_OK : RAYDULCIMER_NOT_FOR_TAG);
+    return said.refusal != RAYDULCIMER_OK && said.refusal != RAYDULCIMER_NOT_FOR_TAG;
 }

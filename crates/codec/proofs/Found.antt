@@ -14,7 +14,7 @@ use Rattle.codec.specs.Layout.{Layout, zeroes, value}
 use Rattle.codec.specs.Technology.{bit, known}
 use Rattle.codec.specs.Message.{messageLimit, versionOf, idOf, assigned, readable, setsAgree, blockCount, setOf, blocksAt, carriesBlocks, layoutsOf, blockAt, also, noId, blockFault, Walked, prepend, walk, endFault, blocksFrom, body, parse, fieldsIn, columnOf, recordOf, reading}
 use Rattle.codec.specs.Places.{Roomy, note, noted, Judged, blockOrZeros, Placed, recordAt, columnAt}
-use Rattle.codec.specs.Records.{blank, capabilities, configurations, withoutBlocks, answer, accepted, refused}
+use Rattle.codec.specs.Records.{blank, capabilities, configurations, answer, accepted, refused}
 use Rattle.codec.proofs.Outcomes.{by-bool, by-number, and-true, or-false, demanded, chained}
 use Rattle.codec.proofs.BlockCases.{no-fields}
 use Rattle.codec.proofs.Layouts.{block, block-fits, block-zeros, roomy}
@@ -214,10 +214,6 @@ found-by m o {f} {found} j z =
       placed = placed m o blocks e found places (j .size);
       reads = reads m o blocks e found places;
     }
-
--- a message without blocks
-pub reads-set : (m found : List ℕ) → (idOf m ≡ 1 → ⊥) → (idOf m ≡ 2 → ⊥) → accepted (withoutBlocks (idOf m) (known (setOf m))) ≡ accepted (recordAt m found)
-reads-set m found a b = rw (ne-eqb _ 1 a, ne-eqb _ 2 b)
 
 pub reads-refused : (m : List ℕ) (f : ℕ) → f ≡ numberIn (parse m) → (f ≡ 0 → ⊥) → refused f ≡ answer (reading m)
 unfolding reading

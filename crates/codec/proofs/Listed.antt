@@ -8,13 +8,11 @@ use mathlib.Core.List.{List, []}
 use lib.Dec.{leb}
 use lib.ListN.{length, getD}
 use borrow.Author.Tests.{le-leb, lt-leb, leb-true, leb-false}
-use Rattle.codec.specs.Refusal.{Checked, refuse, accept, andThen, numberIn}
+use Rattle.codec.specs.Refusal.{Checked, refuse, accept, numberIn}
 use Rattle.codec.specs.Octets.{Octets}
-use Rattle.codec.specs.Message.{idOf, setOf, blocksAt, blockCount, blockAt, also, noId, blockFault, Walked, prepend, walk, parse, recordOf, reading}
+use Rattle.codec.specs.Message.{idOf, setOf, blocksAt, blockCount, blockAt, also, noId, blockFault, Walked, prepend, walk, parse}
 use Rattle.codec.specs.Listing.{noBlock, nthFrom, listed, nthBlock, headAt, placeAfter, Lists}
-use Rattle.codec.specs.Records.{answer}
 use Rattle.codec.specs.declared.records.Block.{Block}
-use Rattle.codec.specs.declared.records.Reading.{Reading}
 use Rattle.codec.proofs.Outcomes.{by-bool, by-number, chained}
 use Rattle.codec.proofs.WalkCases.{Sound, sound}
 use Rattle.codec.proofs.Found.{parsed, four}
@@ -83,15 +81,6 @@ lists-next m at left (suc n) r p z h came w e =
     ∙ ap (λ (w : Walked). nthFrom (w .blocks) at (suc n)) q
 
 -- ---- a message, by the number of its first fault
-
--- which is what the reader answers
-pub answered : (m : List ℕ) {a : Reading} → a ≡ answer (reading m) → a .refusal ≡ numberIn (parse m)
-unfolding reading
-answered m {a} e = ap (λ (a : Reading). a .refusal) e ∙ go (parse m)
-  where
-    go : (c : Checked (List (List ℕ))) → answer (andThen c λ blocks. accept (recordOf (idOf m) (setOf m) blocks)) .refusal ≡ numberIn c
-    go (refuse x) = refl
-    go (accept blocks) = refl
 
 module _ (m : List ℕ) (f : ℕ) (e : f ≡ numberIn (parse m)) where
   pub lists-refused : (n : ℕ) → (f ≡ 0 → ⊥) → noBlock ≡ nthBlock m n

@@ -8,7 +8,7 @@ use crate::records::Configuration;
 use crate::records::Reading;
 use crate::records::Record;
 use crate::records::TagReading;
-use crate::records::without_blocks;
+use crate::records::refused;
 use crate::records::zero_capability;
 use crate::records::zero_configuration;
 use crate::rssi;
@@ -60,62 +60,53 @@ fn configuration_at(m: &[u8], found: &[u16; 5]) -> Configuration
     Configuration { uwb, cs, nan, rssi }
 }
 
-// The answer to a Capability Response that is not refused.
-fn accepted_response(m: &[u8], found: &[u16; 5]) -> Reading
-    requires { ⌜ (4 ≤ length (now m)) × (idOf (now m) ≡ 1) × Placed (capabilities .layouts) (now m) (now found) ⌝ }
-    ensures { λ r. ⌜ r ≡ accepted (recordAt (now (m .entry)) (now (found .entry))) ⌝ }
+// The record of a message that is not refused.
+fn record_at(m: &[u8], found: &[u16; 5]) -> Record
+    requires { ⌜ (4 ≤ length (now m)) × (carriesBlocks (idOf (now m)) ≡ true → Placed (layoutsOf (idOf (now m))) (now m) (now found)) ⌝ }
+    ensures { λ r. ⌜ r ≡ recordAt (now (m .entry)) (now (found .entry)) ⌝ }
 {
+    let id = m[1];
     let set = u16_at(m, 2) % 16;
-    let capability = capability_at(m, found);
-    let configuration = zero_configuration();
-    Reading {
-        refusal: 0,
-        value: Record {
-            id: 1,
+    if id == 1 {
+        let capability = capability_at(m, found);
+        let configuration = zero_configuration();
+        return Record {
+            id,
             set,
             capability,
             configuration,
-        },
+        };
     }
-}
-
-// The answer to a Configuration that is not refused.
-fn accepted_configuration(m: &[u8], found: &[u16; 5]) -> Reading
-    requires { ⌜ (4 ≤ length (now m)) × (idOf (now m) ≡ 2) × Placed (configurations .layouts) (now m) (now found) ⌝ }
-    ensures { λ r. ⌜ r ≡ accepted (recordAt (now (m .entry)) (now (found .entry))) ⌝ }
-{
-    let set = u16_at(m, 2) % 16;
     let capability = zero_capability();
-    let configuration = configuration_at(m, found);
-    Reading {
-        refusal: 0,
-        value: Record {
-            id: 2,
+    if id == 2 {
+        let configuration = configuration_at(m, found);
+        return Record {
+            id,
             set,
             capability,
             configuration,
-        },
+        };
+    }
+    let configuration = zero_configuration();
+    Record {
+        id,
+        set,
+        capability,
+        configuration,
     }
 }
 
-// Reads a message: its record, or the number of the refusal that the order of checks names. Each kind of message has a return of
-// its own, so that the record is stored once, where it goes.
+// Reads a message: its record, or the number of the refusal that the order of checks names.
 pub fn read(message: &[u8]) -> Reading
     ensures { λ r. ⌜ r ≡ answer (reading (now (message .entry))) ⌝ }
 {
     let mut found = [0u16; 5];
     let fault = message_fault(message, &mut found);
     if fault != 0 {
-        return without_blocks(fault, 0, 0);
+        return refused(fault);
     }
-    let id = message[1];
-    if id == 1 {
-        return accepted_response(message, &found);
-    }
-    if id == 2 {
-        return accepted_configuration(message, &found);
-    }
-    without_blocks(0, id, u16_at(message, 2) % 16)
+    let value = record_at(message, &found);
+    Reading { refusal: 0, value }
 }
 
 // What a tag reads of a message that is not refused.

@@ -13,7 +13,7 @@ use crate::uwb::PreambleIndexes;
 use crate::uwb::UwbCapability;
 use crate::uwb::UwbConfiguration;
 ghost use mathlib.Core.Path.{_≡_};
-ghost use Rattle.codec.specs.Records.{capabilities, configurations, blank, messageId, withoutBlocks};
+ghost use Rattle.codec.specs.Records.{capabilities, configurations, blank, messageId, refused};
 
 // What the blocks of message 1 say. An absent technology's fields are zero.
 #[repr(C)]
@@ -172,17 +172,16 @@ pub(crate) fn zero_configuration() -> Configuration
     }
 }
 
-// An answer whose record has no blocks.
-pub(crate) fn without_blocks(refusal: u8, id: u8, set: u16) -> Reading
-    ensures { λ r. ⌜ r ≡ record { refusal = refusal; value = withoutBlocks id set } ⌝ }
+pub(crate) fn refused(number: u8) -> Reading
+    ensures { λ r. ⌜ r ≡ refused number ⌝ }
 {
     let capability = zero_capability();
     let configuration = zero_configuration();
     Reading {
-        refusal,
+        refusal: number,
         value: Record {
-            id,
-            set,
+            id: 0,
+            set: 0,
             capability,
             configuration,
         },

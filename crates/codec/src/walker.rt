@@ -1,7 +1,7 @@
 // A walker over the blocks of a message: it holds the message and a place in it. Each of its functions takes it apart and
 // leaves the work to a function on the slice and the number.
+use crate::checks::message_fault;
 use crate::octets::u16_at;
-use crate::reader::read;
 use crate::records::Block;
 ghost use mathlib.Core.Path.{_≡_};
 ghost use Rattle.codec.specs.Listing.{noBlock, nthBlock, headAt, placeAfter, Lists};
@@ -104,8 +104,9 @@ fn nth_block(m: &[u8], at: usize, left: u32, n: usize) -> Block
 pub fn block(message: &[u8], n: usize) -> Block
     ensures { λ r. ⌜ r ≡ nthBlock (now (message .entry)) n ⌝ }
 {
-    let reading = read(message);
-    if reading.refusal != 0 {
+    let mut found = [0u16; 5];
+    let fault = message_fault(message, &mut found);
+    if fault != 0 {
         return no_block();
     }
     match message[1] {

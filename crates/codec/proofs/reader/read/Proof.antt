@@ -1,6 +1,6 @@
-use Rattle.codec.proofs.Found.{Found, found-by, reads-refused, reads-set}
-use borrow.Author.Tests.{eq-eqb}
-use mathlib.Core.Path.{_∙_}
+use Rattle.codec.proofs.Found.{Found, found-by, reads-refused}
+use Rattle.codec.specs.Records.{accepted}
+use mathlib.Core.Path.{ap, _∙_}
 use native.Mathlib.Omega.{arith}
 use borrow.Author.Needs.{needs}
 use Rattle.codec.proofs.reader.read.Statement.{statement}
@@ -12,55 +12,19 @@ found c = found-by (c .before .before .before .before .args .message .now) (λ i
 message-fault-requires : tie.Need-message-fault-requires
 message-fault-requires c κs = search needs
 
-without-blocks-requires : tie.Need-without-blocks-requires
-without-blocks-requires c κs = search needs
+refused-requires : tie.Need-refused-requires
+refused-requires c κs = search needs
 
 returns : tie.Need-returns
-returns c = c .without-blocks .ensures ∙ reads-refused _ _ (c .before .before .message-fault .ensures .number) (c .before .if1 .taken)
+returns c = c .refused .ensures ∙ reads-refused _ _ (c .before .before .message-fault .ensures .number) (c .before .if1 .taken)
 
-shared-slice-read-id : tie.Need-shared-slice-read-id
-shared-slice-read-id c = omega (arith, found (c .before) .four)
-
-accepted-response-requires : tie.Need-accepted-response-requires
-accepted-response-requires c κs =
-    let e = eq-eqb _ 1 (c .before .if2 .taken) in
-    (found (c .before .before .before) .four, c .before .if2 .taken, rw e at (found (c .before .before .before) .placed (rw e)))
+record-at-requires : tie.Need-record-at-requires
+record-at-requires c κs = (found (c .before) .four, found (c .before) .placed)
 
 returns-2 : tie.Need-returns-2
-returns-2 c = c .accepted-response .ensures ∙ found (c .before .before .before .before) .reads
-
-accepted-configuration-requires : tie.Need-accepted-configuration-requires
-accepted-configuration-requires c κs =
-    let e = c .before .if3 .taken in
-    (found (c .before .before .before .before) .four, e, rw e at (found (c .before .before .before .before) .placed (rw e)))
-
-returns-3 : tie.Need-returns-3
-returns-3 c = c .accepted-configuration .ensures ∙ found (c .before .before .before .before .before) .reads
-
-u16-at-requires : tie.Need-u16-at-requires
-u16-at-requires c κs = omega (arith, found (c .before .before .before) .four)
-
-without-blocks-requires-2 : tie.Need-without-blocks-requires-2
-without-blocks-requires-2 c κs = search needs
-
-returns-4 : tie.Need-returns-4
-returns-4 c =
-    let m = c .before .before .before .before .before .before .before .before .before .args .message .now in
-    let f = found (c .before .before .before .before .before) in
-    c .without-blocks2 .ensures ∙ rw (c .before .u16-at .ensures) (reads-set m (c .before .before .before .before .before .before .message-fault .last .1 .0) (c .before .before .before .if2 .left) (c .before .before .if3 .left) ∙ f .reads)
+returns-2 c = ap accepted (c .record-at .ensures) ∙ found (c .before .before) .reads
 
 pub read-spec : {M : Type 1} → statement M
 read-spec =
     tie.close
-    (tie.spec
-    message-fault-requires
-    without-blocks-requires
-    returns
-    shared-slice-read-id
-    accepted-response-requires
-    returns-2
-    accepted-configuration-requires
-    returns-3
-    u16-at-requires
-    without-blocks-requires-2
-    returns-4)
+    (tie.spec message-fault-requires refused-requires returns record-at-requires returns-2)

@@ -3,23 +3,23 @@ use Prim.Native.Nat.{_≤_}
 use lib.ListN.{length}
 use borrow.Author.Tests.{ne-eqb}
 use mathlib.Core.Path.{_∙_}
-use Rattle.codec.proofs.Listed.{answered, lists-none, lists-refused, room, lists-message}
+use Rattle.codec.proofs.Listed.{lists-none, lists-refused, room, lists-message}
 use borrow.Author.Needs.{needs}
 use Rattle.codec.proofs.walker.block.Statement.{statement}
 use Rattle.codec.proofs.walker.block.Tie as tie
 
 -- a message that is not refused has its set
 four : (c : tie.Else1) → 4 ≤ length (c .before .before .before .before .args .message .now)
-four c = room _ _ (answered _ (c .before .before .read .ensures)) (c .if1 .left) (λ i. omega (arith, c .before .before .before .shared-slice-known .given i))
+four c = room _ _ (c .before .message-fault .ensures .number) (c .if1 .left) (λ i. omega (arith, c .before .before .before .shared-slice-known .given i))
 
-read-requires : tie.Need-read-requires
-read-requires c κs = search needs
+message-fault-requires : tie.Need-message-fault-requires
+message-fault-requires c κs = search needs
 
 no-block-requires : tie.Need-no-block-requires
 no-block-requires c κs = search needs
 
 returns : tie.Need-returns
-returns c = c .no-block .ensures ∙ lists-refused _ _ (answered _ (c .before .before .before .read .ensures)) _ (c .before .if1 .taken)
+returns c = c .no-block .ensures ∙ lists-refused _ _ (c .before .before .message-fault .ensures .number) _ (c .before .if1 .taken)
 
 shared-slice-read-match : tie.Need-shared-slice-read-match
 shared-slice-read-match c = omega (arith, four (c .before))
@@ -40,19 +40,19 @@ no-block-requires-2 : tie.Need-no-block-requires-2
 no-block-requires-2 c κs = search needs
 
 returns-2 : tie.Need-returns-2
-returns-2 c = lists-message _ _ (answered _ (c .before .before .before .before .before .before .read .ensures)) (c .before .before .before .before .if1 .left) _ _ (rw (c .before .before .match .keys1, ← c .before .u16-at .ensures) (c .nth-block .ensures))
+returns-2 c = lists-message _ _ (c .before .before .before .before .before .message-fault .ensures .number) (c .before .before .before .before .if1 .left) _ _ (rw (c .before .before .match .keys1, ← c .before .u16-at .ensures) (c .nth-block .ensures))
 
 returns-3 : tie.Need-returns-3
-returns-3 c = lists-message _ _ (answered _ (c .before .before .before .before .before .before .read .ensures)) (c .before .before .before .before .if1 .left) _ _ (rw (c .before .before .match .keys2, ← c .before .u16-at2 .ensures) (c .nth-block2 .ensures))
+returns-3 c = lists-message _ _ (c .before .before .before .before .before .message-fault .ensures .number) (c .before .before .before .before .if1 .left) _ _ (rw (c .before .before .match .keys2, ← c .before .u16-at2 .ensures) (c .nth-block2 .ensures))
 
 returns-4 : tie.Need-returns-4
-returns-4 c = c .no-block2 .ensures ∙ lists-message _ _ (answered _ (c .before .before .before .before .before .read .ensures)) (c .before .before .before .if1 .left) _ _ (lists-none _ _ _ _ (rw (ne-eqb _ 1 (c .before .match .rest .0 .1), ne-eqb _ 2 (c .before .match .rest .1))))
+returns-4 c = c .no-block2 .ensures ∙ lists-message _ _ (c .before .before .before .before .message-fault .ensures .number) (c .before .before .before .if1 .left) _ _ (lists-none _ _ _ _ (rw (ne-eqb _ 1 (c .before .match .rest .0 .1), ne-eqb _ 2 (c .before .match .rest .1))))
 
 pub block-spec : {M : Type 1} → statement M
 block-spec =
     tie.close
     (tie.spec
-    read-requires
+    message-fault-requires
     no-block-requires
     returns
     shared-slice-read-match

@@ -1,6 +1,6 @@
 use borrow.Author.Needs.{needs}
-use Rattle.codec.proofs.records.without_blocks.Statement.{statement}
-use Rattle.codec.proofs.records.without_blocks.Tie as tie
+use Rattle.codec.proofs.records.refused.Statement.{statement}
+use Rattle.codec.proofs.records.refused.Tie as tie
 
 zero-capability-requires : tie.Need-zero-capability-requires
 zero-capability-requires c κs = search needs
@@ -11,5 +11,5 @@ zero-configuration-requires c κs = search needs
 returns : tie.Need-returns
 returns c = rw (c .before .zero-capability .ensures, c .zero-configuration .ensures)
 
-pub without-blocks-spec : {M : Type 1} → statement M
-without-blocks-spec = tie.close (tie.spec zero-capability-requires zero-configuration-requires returns)
+pub refused-spec : {M : Type 1} → statement M
+refused-spec = tie.close (tie.spec zero-capability-requires zero-configuration-requires returns)
