@@ -108,9 +108,16 @@ pub fn all_zero(s: &[u8]) -> bool
 
 // Whether all octets from a place on are zero.
 pub(crate) fn zero_from(s: &[u8], from: usize) -> bool
+    requires { ⌜ from ≤ length (now s) ⌝ }
     ensures { λ r. ⌜ r ≡ allZero (drop from (now (s .entry))) ⌝ }
 {
     let mut i = from;
+    while 4 <= s.len() - i {
+        if u32_at(s, i) != 0 {
+            return false;
+        }
+        i += 4;
+    }
     while i < s.len() {
         if s[i] != 0 {
             return false;

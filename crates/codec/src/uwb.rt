@@ -254,6 +254,7 @@ fn zero_key(key: &[u8; 32]) -> bool
 }
 
 fn zero_key_from(key: &[u8; 32], from: usize) -> bool
+    requires { ⌜ from ≤ 32 ⌝ }
     ensures { λ r. ⌜ r ≡ allZero (drop from (now (key .entry))) ⌝ }
 {
     zero_from(key, from)

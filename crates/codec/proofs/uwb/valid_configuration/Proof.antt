@@ -1,4 +1,8 @@
 use Rattle.codec.proofs.Laws.{failed, passed}
+use Rattle.codec.proofs.Layouts.{within-le}
+use Rattle.codec.specs.Layout.{oneOf}
+use mathlib.Core.List.{[], _∷_}
+use mathlib.Core.Path.{refl}
 use mathlib.Core.Bool.{and-true, and-false, and-assoc}
 use borrow.Author.Tests.{not-true, not-false}
 use mathlib.Core.Path.{_∙_}
@@ -28,7 +32,7 @@ inside-requires-2 : tie.Need-inside-requires-2
 inside-requires-2 c κs = search needs
 
 zero-key-from-requires : tie.Need-zero-key-from-requires
-zero-key-from-requires c κs = search needs
+zero-key-from-requires c κs = within-le (oneOf (8 ∷ 16 ∷ 32 ∷ [])) 32 _ refl (passed (c .before .before .before .before .before .before .before .allowed-key-length .ensures) (c .before .before .before .before .before .before .if2 .left))
 
 allowed-interval-requires : tie.Need-allowed-interval-requires
 allowed-interval-requires c κs = search needs
