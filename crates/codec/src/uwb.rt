@@ -279,10 +279,9 @@ pub(crate) fn valid_configuration(present: bool, v: UwbConfiguration) -> bool
     if !allowed_key_length(v.key_length) {
         return false;
     }
-    let key = v.key;
     let country = v.country;
     let k = v.key_length as usize;
-    let last = inside(1, 2, v.role) & (inside(1, 2, v.mode) & zero_key_from(&key, k));
+    let last = inside(1, 2, v.role) & (inside(1, 2, v.mode) & zero_key_from(&v.key, k));
     allowed_interval(v.interval) & (inside(1, 2, v.slot) & (letters(country) & last))
 }
 

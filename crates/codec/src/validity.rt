@@ -73,5 +73,9 @@ pub(crate) fn rest_zero(set: u16, c: Capability) -> bool
 pub fn no_configuration(c: Configuration) -> bool
     ensures { λ r. ⌜ r ≡ validColumn configurations 0 c ⌝ }
 {
-    valid_configuration(0, c)
+    let uwb = uwb::valid_configuration(false, c.uwb);
+    let cs = cs::valid_configuration(false, c.cs);
+    let nan = nan::valid_configuration(false, c.nan);
+    let rssi = rssi::valid_block(false, c.rssi);
+    uwb & (cs & (nan & rssi))
 }

@@ -15,6 +15,7 @@ use crate::rssi;
 use crate::technology::has;
 use crate::uwb;
 use crate::validity::assigned;
+use crate::validity::no_configuration;
 use crate::validity::rest_zero;
 use crate::validity::valid_capability;
 use crate::validity::valid_configuration;
@@ -161,7 +162,7 @@ pub fn write(value: Record, out: &mut [u8]) -> Written
 {
     if value.id == 1 {
         let rest = rest_zero(value.set, value.capability);
-        if !(rest & valid_configuration(0, value.configuration)) {
+        if !(rest & no_configuration(value.configuration)) {
             return refused(NOT_VALID);
         }
         return write_response(value.set, value.capability, out);
@@ -172,7 +173,7 @@ pub fn write(value: Record, out: &mut [u8]) -> Written
     if value.id == 2 {
         return write_settings(value.set, value.configuration, out);
     }
-    if !(assigned(value.id) & valid_configuration(0, value.configuration)) {
+    if !(assigned(value.id) & no_configuration(value.configuration)) {
         return refused(NOT_VALID);
     }
     write_without_blocks(value.id, value.set, out)

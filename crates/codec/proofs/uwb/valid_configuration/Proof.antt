@@ -32,7 +32,7 @@ inside-requires-2 : tie.Need-inside-requires-2
 inside-requires-2 c κs = search needs
 
 zero-key-from-requires : tie.Need-zero-key-from-requires
-zero-key-from-requires c κs = within-le (oneOf (8 ∷ 16 ∷ 32 ∷ [])) 32 _ refl (passed (c .before .before .before .before .before .before .before .allowed-key-length .ensures) (c .before .before .before .before .before .before .if2 .left))
+zero-key-from-requires c κs = within-le (oneOf (8 ∷ 16 ∷ 32 ∷ [])) 32 _ refl (passed (c .before .before .before .before .before .before .allowed-key-length .ensures) (c .before .before .before .before .before .if2 .left))
 
 allowed-interval-requires : tie.Need-allowed-interval-requires
 allowed-interval-requires c κs = search needs
@@ -44,7 +44,7 @@ letters-requires : tie.Need-letters-requires
 letters-requires c κs = search needs
 
 returns-3 : tie.Need-returns-3
-returns-3 c = simp (not-false (c .before .before .before .before .before .before .before .before .before .before .before .before .before .args .present) (c .before .before .before .before .before .before .before .before .before .before .before .before .if1 .left), passed (c .before .before .before .before .before .before .before .before .before .before .before .allowed-key-length .ensures) (c .before .before .before .before .before .before .before .before .before .before .if2 .left), and-true, and-assoc) (cc)
+returns-3 c = simp (not-false (c .before .before .before .before .before .before .before .before .before .before .before .before .args .present) (c .before .before .before .before .before .before .before .before .before .before .before .if1 .left), passed (c .before .before .before .before .before .before .before .before .before .before .allowed-key-length .ensures) (c .before .before .before .before .before .before .before .before .before .if2 .left), and-true, and-assoc) (cc)
 
 pub valid-configuration-spec : {M : Type 1} → statement M
 valid-configuration-spec =

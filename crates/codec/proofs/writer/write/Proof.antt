@@ -13,17 +13,17 @@ use Rattle.codec.proofs.writer.write.Statement.{statement}
 use Rattle.codec.proofs.writer.write.Tie as tie
 
 -- what the tests of what is not used say
-rest : (c : tie.After-valid-configuration) → (c .before .rest-zero .result && c .valid-configuration .result) ≡ (restZero (c .before .before .before .before .before .args .value .set) (c .before .before .before .before .before .args .value .capability) && validColumn configurations 0 (c .before .before .before .before .before .args .value .configuration))
-rest c = rw (c .before .rest-zero .ensures, c .valid-configuration .ensures)
+rest : (c : tie.After-no-configuration) → (c .before .rest-zero .result && c .no-configuration .result) ≡ (restZero (c .before .before .before .before .before .args .value .set) (c .before .before .before .before .before .args .value .capability) && validColumn configurations 0 (c .before .before .before .before .before .args .value .configuration))
+rest c = rw (c .before .rest-zero .ensures, c .no-configuration .ensures)
 
-other : (c : tie.After-valid-configuration2) → (c .before .assigned .result && c .valid-configuration2 .result) ≡ (assigned (c .before .before .before .before .before .before .before .before .before .args .value .id) && validColumn configurations 0 (c .before .before .before .before .before .before .before .before .before .args .value .configuration))
-other c = rw (c .before .assigned .ensures, c .valid-configuration2 .ensures)
+other : (c : tie.After-no-configuration2) → (c .before .assigned .result && c .no-configuration2 .result) ≡ (assigned (c .before .before .before .before .before .before .before .before .before .args .value .id) && validColumn configurations 0 (c .before .before .before .before .before .before .before .before .before .args .value .configuration))
+other c = rw (c .before .assigned .ensures, c .no-configuration2 .ensures)
 
 rest-zero-requires : tie.Need-rest-zero-requires
 rest-zero-requires c κs = search needs
 
-valid-configuration-requires : tie.Need-valid-configuration-requires
-valid-configuration-requires c κs = search needs
+no-configuration-requires : tie.Need-no-configuration-requires
+no-configuration-requires c κs = search needs
 
 refused-requires : tie.Need-refused-requires
 refused-requires c κs = search needs
@@ -61,8 +61,8 @@ returns-4 c = as-settings (c .before .before .before .before .before .before .be
 assigned-requires : tie.Need-assigned-requires
 assigned-requires c κs = search needs
 
-valid-configuration-requires-2 : tie.Need-valid-configuration-requires-2
-valid-configuration-requires-2 c κs = search needs
+no-configuration-requires-2 : tie.Need-no-configuration-requires-2
+no-configuration-requires-2 c κs = search needs
 
 refused-requires-3 : tie.Need-refused-requires-3
 refused-requires-3 c κs = search needs
@@ -84,7 +84,7 @@ write-spec =
     tie.close
     (tie.spec
     rest-zero-requires
-    valid-configuration-requires
+    no-configuration-requires
     refused-requires
     returns
     write-response-requires
@@ -97,7 +97,7 @@ write-spec =
     same-length-2
     returns-4
     assigned-requires
-    valid-configuration-requires-2
+    no-configuration-requires-2
     refused-requires-3
     returns-5
     write-without-blocks-requires

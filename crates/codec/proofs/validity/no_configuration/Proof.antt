@@ -1,0 +1,30 @@
+use Rattle.codec.specs.Valid.{validColumn}
+use borrow.Author.Needs.{needs}
+use Rattle.codec.proofs.validity.no_configuration.Statement.{statement}
+use Rattle.codec.proofs.validity.no_configuration.Tie as tie
+
+valid-configuration-requires : tie.Need-valid-configuration-requires
+valid-configuration-requires c κs = search needs
+
+valid-configuration-requires-2 : tie.Need-valid-configuration-requires-2
+valid-configuration-requires-2 c κs = search needs
+
+valid-configuration-requires-3 : tie.Need-valid-configuration-requires-3
+valid-configuration-requires-3 c κs = search needs
+
+valid-block-requires : tie.Need-valid-block-requires
+valid-block-requires c κs = search needs
+
+returns : tie.Need-returns
+unfolding validColumn
+returns c = rw (c .before .before .before .valid-configuration .ensures, c .before .before .valid-configuration2 .ensures, c .before .valid-configuration3 .ensures, c .valid-block .ensures)
+
+pub no-configuration-spec : {M : Type 1} → statement M
+no-configuration-spec =
+    tie.close
+    (tie.spec
+    valid-configuration-requires
+    valid-configuration-requires-2
+    valid-configuration-requires-3
+    valid-block-requires
+    returns)
