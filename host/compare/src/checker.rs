@@ -5,6 +5,7 @@ use second::Record;
 /// After so many differences the rest is only counted.
 const SHOWN: u64 = 20;
 
+#[derive(Default)]
 pub struct Checker {
     pub messages: u64,
     pub accepted: u64,
@@ -28,13 +29,7 @@ fn pattern(length: usize) -> Vec<u8> {
 
 impl Checker {
     pub fn new() -> Self {
-        Checker {
-            messages: 0,
-            accepted: 0,
-            blocks: 0,
-            writes: 0,
-            differences: 0,
-        }
+        Checker::default()
     }
 
     pub fn differ(&mut self, what: impl FnOnce() -> String) {

@@ -11,9 +11,13 @@ pub fn octets(line: &str) -> Vec<u8> {
         .collect()
 }
 
+pub fn messages() -> impl Iterator<Item = Vec<u8>> {
+    MESSAGES.lines().filter(|line| !line.starts_with('#')).map(octets)
+}
+
 pub fn run(checker: &mut Checker) {
-    for line in MESSAGES.lines().filter(|line| !line.starts_with('#')) {
-        if let Some(record) = checker.message(&octets(line)) {
+    for message in messages() {
+        if let Some(record) = checker.message(&message) {
             checker.write_everywhere(&record);
         }
     }

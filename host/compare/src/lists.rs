@@ -3,14 +3,12 @@ use crate::convert::to_library;
 use crate::damage::any_record;
 use crate::fitted::{fitted, Fitted, Rule};
 use crate::mixtures::{changed, decorate};
+use crate::pair::ROOM_LIMIT;
 use crate::profiles::{self, Fault};
 use crate::random::Random;
 use crate::shapes::{response, Shape, Values};
 use raydulcimer::raw;
 use second::Record;
-
-/// No lent buffer is longer.
-pub const ROOM_LIMIT: usize = 300;
 
 pub struct List {
     pub seed: u64,

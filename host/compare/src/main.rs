@@ -10,30 +10,10 @@
 //! The seed is printed; a difference is printed with the octets or the calls that show it, and the exit status is then 1. It
 //! is 2 if the listing program is missing, and 3 if the lists of calls do not reach, again and again, all that they have to
 //! reach, or the logs do not reach it once.
-mod changes;
-mod checker;
-mod convert;
-mod corpus;
-mod counts;
-mod damage;
-mod fitted;
-mod lines;
-mod listings;
-mod lists;
-mod logs;
-mod mixtures;
-mod named;
-mod outcomes;
-mod profiles;
-mod program;
-mod random;
-mod reached;
-mod sessions;
-mod shapes;
-
-use checker::Checker;
-use program::Program;
-use random::Random;
+use compare::checker::Checker;
+use compare::program::Program;
+use compare::random::Random;
+use compare::{changes, corpus, damage, listings, mixtures, named, sessions};
 use std::fmt::Debug;
 use std::process::ExitCode;
 use std::time::{Instant, SystemTime, UNIX_EPOCH};

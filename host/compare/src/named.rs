@@ -68,6 +68,11 @@ fn check(checker: &mut Checker, name: &str, message: &[u8], answer: &Answer) {
     }
 }
 
+/// The messages of the list, without what the rules say of them.
+pub fn messages() -> impl Iterator<Item = Vec<u8>> {
+    NAMED.iter().map(|(_, hex, _)| octets(hex))
+}
+
 pub fn run(checker: &mut Checker) {
     for (name, hex, answer) in NAMED {
         check(checker, name, &octets(hex), answer);

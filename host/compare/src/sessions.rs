@@ -1,17 +1,13 @@
 //! Takes both implementations through lists of calls and compares every answer, buffer and session.
 use crate::checker::hex;
-use crate::convert::{of_session, to_answer, to_library};
-use crate::lists::{Call, List, ROOM_LIMIT};
+use crate::convert::to_library;
+use crate::lists::{Call, List};
+use crate::pair::Pair;
 use crate::random::Random;
 use crate::reached::{Reached, Step};
-use raydulcimer::raw;
-use second::Session;
 
 /// After so many lists with a difference the rest is only counted.
 const SHOWN: u64 = 3;
-
-/// The lent buffer lies at the start; what comes after it has to stay too.
-type Buffer = [u8; ROOM_LIMIT + 20];
 
 pub struct Sessions {
     pub lists: u64,
@@ -50,65 +46,30 @@ pub fn run(seed: u64, calls: u64) -> Sessions {
     sessions
 }
 
-fn same<T: PartialEq + std::fmt::Debug>(what: &str, proved: &T, plain: &T) -> Result<(), String> {
-    if proved == plain {
-        Ok(())
-    } else {
-        Err(format!("{what}: proved {proved:X?}, second {plain:X?}"))
-    }
-}
-
-fn same_session(proved: &Session, plain: &Session) -> Result<(), String> {
-    same("profile", &proved.profile, &plain.profile)?;
-    same("UWB", &proved.uwb, &plain.uwb)?;
-    same("NAN", &proved.nan, &plain.nan)?;
-    same("RSSI", &proved.rssi, &plain.rssi)?;
-    same("mark", &proved.mark, &plain.mark)
-}
-
 impl Sessions {
     fn compare(&mut self, list: &List) -> Result<(), Difference> {
         let at = |calls| move |what| Difference { calls, what };
-        let (mut proved, mut plain) = self.start(list).map_err(at(0))?;
+        let mut pair = self.start(list).map_err(at(0))?;
         for (number, call) in list.calls.iter().enumerate() {
-            self.call(list, call, &mut proved, &mut plain).map_err(at(number + 1))?;
+            self.call(list, call, &mut pair).map_err(at(number + 1))?;
         }
         Ok(())
     }
 
     /// The sessions that the calls begin with.
-    fn start(&mut self, list: &List) -> Result<(raw::Session, Session), String> {
-        let started = raw::start(&to_library(&list.profile), list.replies);
-        let plain = second::start(&list.profile, list.replies);
-        let refusal = plain.err().map_or(0, |refusal| refusal.number());
-        same("refusal of the start", &started.refusal, &refusal)?;
-        let fresh = plain.unwrap_or(Session::empty());
-        same_session(&of_session(&started.session), &fresh)?;
+    fn start(&mut self, list: &List) -> Result<Pair, String> {
+        let (pair, refusal) = Pair::start(&list.profile, list.replies)?;
         self.reached.start(list, refusal != 0);
         Ok(match &list.forged {
-            Some(forged) => (forged.session, of_session(&forged.session)),
-            None => (started.session, fresh),
+            Some(forged) => Pair::forged(&forged.session),
+            None => pair,
         })
     }
 
-    fn call(&mut self, list: &List, call: &Call, proved: &mut raw::Session, plain: &mut Session) -> Result<(), String> {
+    fn call(&mut self, list: &List, call: &Call, pair: &mut Pair) -> Result<(), String> {
         self.calls += 1;
-        let before = *proved;
-        let buffer: Buffer = std::array::from_fn(|place| (place * 37) as u8 ^ call.filling);
-        let (mut one, mut other) = (buffer, buffer);
-        let (lent, lent_too) = (&mut one[..call.room], &mut other[..call.room]);
-        let (answer, plain_answer) = match &call.message {
-            Some(message) => (proved.message(message, lent), plain.message(message, lent_too)),
-            None => (proved.advertise(lent), plain.advertise(lent_too)),
-        };
-        same("answer", &answer, &to_answer(plain_answer))?;
-        if one != other {
-            return Err(format!("buffer: proved {}, second {}", hex(&one), hex(&other)));
-        }
-        same_session(&of_session(proved), plain)?;
-        if one[answer.length..] != buffer[answer.length..] {
-            return Err("both changed octets beside the reply".to_string());
-        }
+        let before = pair.proved;
+        let answer = pair.call(call.message.as_deref(), call.room, call.filling)?;
         if answer.refusal == 0 {
             self.accepted += 1;
             if let Some(aim) = &call.aim {
@@ -118,15 +79,13 @@ impl Sessions {
                     return Err(format!("both set {:X}, and {due:X} is due", answer.set));
                 }
             }
-        } else if *proved != before {
-            return Err("a refused call changed the session".to_string());
         }
         self.reached.call(&Step {
             list,
             call,
             before: &before,
             answer: &answer,
-            after: proved,
+            after: &pair.proved,
         });
         Ok(())
     }

@@ -1,0 +1,22 @@
+//! What makes messages, records, lists of calls and logs, gives them to both implementations and compares what they answer.
+pub mod changes;
+pub mod checker;
+pub mod convert;
+pub mod corpus;
+mod counts;
+pub mod damage;
+mod fitted;
+mod lines;
+pub mod listings;
+pub mod lists;
+mod logs;
+pub mod mixtures;
+pub mod named;
+mod outcomes;
+pub mod pair;
+mod profiles;
+pub mod program;
+pub mod random;
+mod reached;
+pub mod sessions;
+pub mod shapes;
