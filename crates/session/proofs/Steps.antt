@@ -24,12 +24,17 @@ use Rattle.codec.proofs.Outcomes.{by-bool, and-true, no-zero}
 use Rattle.codec.proofs.ValidCases.{response-valid, only-valid, set-valid, response-of}
 use Rattle.session.specs.declared.state.Profile.{Profile}
 use Rattle.session.specs.declared.state.Session.{Session}
+use Rattle.session.specs.declared.state.Answer.{Answer}
 use Rattle.session.specs.declared.state.Step.{Step}
-use Rattle.session.specs.Technology.{Technology, uwb, cs, nan, rssi, among, names, setOf}
-use Rattle.session.specs.Rules.{validProfile, Call, message, advertisement, Kind, request, configuration, stop, other, kindOf, octetsOf, replied, shows, capabilityReply, Served, conclude, giveOut, configure, endedBy, halt, serve, call}
+use Rattle.session.specs.Technology.{Technology, uwb, cs, nan, rssi, names, setOf}
+use Rattle.session.specs.Rules.{validProfile, Call, message, advertisement, Kind, request, configuration, stop, other, kindOf, octetsOf, replied, shows, capabilityReply, Served, conclude, giveOut, configure, setBy, endedBy, halt, serve, call, after, answerTo}
 use Rattle.session.specs.Session.{yes, rangingIn, sessionKeeps, sessionCall, Gives, profileOf}
-use Rattle.session.specs.Replies.{delivery, Delivers, settle}
+use Rattle.session.specs.Replies.{delivery, Delivers, settle, Answers}
 use Rattle.session.proofs.SetLaws.{set-below, names-set}
+
+-- a step with the same session
+pub with-session : {s x y : Session} {o : Checked (Served Session)} {a : Answer} {b e : List ℕ} → x ≡ y → Gives s o b (record { session = y; answer = a }) e → Gives s o b (record { session = x; answer = a }) e
+with-session q g = record { session = q ∙ g .session; answer = g .answer; buffer = g .buffer }
 
 abbrev pub refusal : Session → ℕ → Step
 refusal s n = record { session = s; answer = record { refusal = n; length = 0; set = 0; stopped = 0 } }
@@ -86,30 +91,44 @@ capabilities-delivered p wanted v k h = delivered (reply-valid p (names wanted) 
 
 -- ---- and the call goes as the writer says
 
-module _ (s : Session) (v : Served Session) {b e : List ℕ} {w : Written} (d : Delivers (v .reply) b w e) where
-  pub settled : Gives s (conclude b v) b (settle s v w) e
+module _ (v : Served Session) {b e : List ℕ} {w : Written} (d : Delivers (v .reply) b w e) where
+  pub settled : Answers (conclude b v) b (settle w (v .set) (v .stopped)) e
   unfolding conclude delivery replied
   settled = by-bool (leb (length (octetsOf (v .reply))) (length b))
-      (λ t. record { session = rw (d .answers, t); answer = rw (d .answers, t); buffer = rw (d .leaves, t) })
-      (λ f. record { session = rw (d .answers, f); answer = rw (d .answers, f); buffer = rw (d .leaves, f) })
+      (λ t. record { answer = rw (d .answers, t); buffer = rw (d .leaves, t) })
+      (λ f. record { answer = rw (d .answers, f); buffer = rw (d .leaves, f) })
 
-pub none-either : (z : Bool) → _≡_ {A = ℕ} (cond z 0 0) 0
-none-either true = refl
-none-either false = refl
+-- what a Capability Response gives out: the mark goes where its blocks have UWB
+module _ (s : Session) (wanted : ℕ) {blocks m : ℕ} {b e : List ℕ} {w : Written}
+    (k : blocks ≡ cond (bit wanted 0 && bit (s .profile .set) 0) 1 0 + (cond (bit wanted 1 && bit (s .profile .set) 1) 2 0 + (cond (bit wanted 2 && bit (s .profile .set) 2) 4 0 + cond (bit wanted 3 && bit (s .profile .set) 3) 8 0)))
+    (q : m ≡ cond (bit blocks 0 && eqb (w .refusal) 0) 0 (s .mark))
+    (v : validProfile (s .profile) ≡ true) (h : Writes (response blocks (only blocks (s .profile .capability))) b w e) where
+  pub given : Gives s (conclude b (giveOut sessionKeeps (s .profile) (names wanted) s)) b (record { session = record { profile = s .profile; uwb = s .uwb; nan = s .nan; rssi = s .rssi; mark = m }; answer = settle w 0 0 }) e
+  unfolding conclude delivery replied shows
+  given = let f = shows (s .profile) (names wanted) in
+      let d = capabilities-delivered (s .profile) wanted v k h in
+      let x = ap (λ (n : ℕ). bit n 0) k ∙ names-set f uwb in
+      by-bool (leb (length (octetsOf (some (capabilityReply (s .profile) (names wanted))))) (length b))
+      (λ t. record { session = rw (q, x, d .answers, t, with-true (f uwb)); answer = rw (d .answers, t); buffer = rw (d .leaves, t) })
+      (λ t. record { session = rw (q, d .answers, t, and-false (bit blocks 0)); answer = rw (d .answers, t); buffer = rw (d .leaves, t) })
 
--- what a call gives out, sets or stops, it does where its reply is delivered
-module _ (f : Technology → Bool) (s : Session) where
-  pub give-if : (z : Bool) → sessionKeeps .give (among (f uwb && z) false false false) s ≡ cond z (sessionKeeps .give f s) s
-  give-if true = rw (with-true (f uwb))
-  give-if false = rw (and-false (f uwb))
+-- what the answer names is set and stopped
+abbrev pub follow : Configuration → Answer → Session → Session
+follow c a s = sessionKeeps .stop (names (a .stopped)) (sessionKeeps .put (names (a .set)) c s)
 
-  pub put-if : (c : Configuration) (z : Bool) → sessionKeeps .put (among (f uwb && z) false (f nan && z) (f rssi && z)) c s ≡ cond z (sessionKeeps .put f c s) s
-  put-if c true = rw (with-true (f uwb), with-true (f nan), with-true (f rssi))
-  put-if c false = rw (and-false (f uwb), and-false (f nan), and-false (f rssi))
+pub follow-none : (c : Configuration) (w : Written) (s : Session) → follow c (settle w 0 0) s ≡ s
+follow-none c w s = by-bool (eqb (w .refusal) 0) (λ t. rw t) (λ t. rw t)
 
-  pub stop-if : (z : Bool) → sessionKeeps .stop (among (f uwb && z) false (f nan && z) (f rssi && z)) s ≡ cond z (sessionKeeps .stop f s) s
-  stop-if true = rw (with-true (f uwb), with-true (f nan), with-true (f rssi))
-  stop-if false = rw (and-false (f uwb), and-false (f nan), and-false (f rssi))
+module _ (s : Session) (set : ℕ) (b : List ℕ) where
+  pub follow-configure : (c : Configuration) → let o = conclude b (configure sessionKeeps (s .profile) set c s) in follow c (answerTo o) s ≡ after s o
+  unfolding conclude
+  follow-configure c = let f = setBy sessionKeeps (s .profile) set c s in
+      by-bool (leb (length (octetsOf (configure sessionKeeps (s .profile) set c s .reply))) (length b)) (λ t. rw (t, names-set f uwb, names-set f nan, names-set f rssi)) (λ t. rw t)
+
+  pub follow-halt : (c : Configuration) → let o = conclude b (halt sessionKeeps (s .profile) set s) in follow c (answerTo o) s ≡ after s o
+  unfolding conclude
+  follow-halt c = let f = endedBy sessionKeeps (s .profile) set s in
+      by-bool (leb (length (octetsOf (halt sessionKeeps (s .profile) set s .reply))) (length b)) (λ t. rw (t, names-set f uwb, names-set f nan, names-set f rssi)) (λ t. rw t)
 
 -- ---- what a Stop ends, where CS is never ranging
 

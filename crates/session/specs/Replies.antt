@@ -11,8 +11,8 @@ use Rattle.codec.specs.Writing.{written, buffer}
 use Rattle.codec.specs.declared.records.Record.{Record}
 use Rattle.codec.specs.declared.records.Written.{Written}
 use Rattle.session.specs.declared.state.Session.{Session}
-use Rattle.session.specs.declared.state.Step.{Step}
-use Rattle.session.specs.Rules.{octetsOf, Served}
+use Rattle.session.specs.declared.state.Answer.{Answer}
+use Rattle.session.specs.Rules.{octetsOf, Served, answerTo, bufferAfter}
 
 -- the octets of a reply into a buffer of n octets
 unfoldable pub delivery : Option Record → ℕ → Checked (List ℕ)
@@ -22,14 +22,16 @@ pub record Delivers (r : Option Record) (b : List ℕ) (w : Written) (e : List �
   pub answers : w ≡ written (delivery r (length b))
   pub leaves : e ≡ buffer (delivery r (length b)) b
 
--- the session and the answer of a call once its reply is delivered, or refused
-abbrev pub settle : Session → Served Session → Written → Step
-settle s v w = record {
-  session = cond (eqb (w .refusal) 0) (v .state) s;
-  answer = record {
-    refusal = w .refusal;
-    length = w .length;
-    set = cond (eqb (w .refusal) 0) (v .set) 0;
-    stopped = cond (eqb (w .refusal) 0) (v .stopped) 0;
-  };
+-- the answer of a call that sets and stops these once its reply is delivered, or refused
+abbrev pub settle : Written → ℕ → ℕ → Answer
+settle w set stopped = record {
+  refusal = w .refusal;
+  length = w .length;
+  set = cond (eqb (w .refusal) 0) set 0;
+  stopped = cond (eqb (w .refusal) 0) stopped 0;
 }
+
+-- what a call that leads to `o` answers, and the buffer before and after
+pub record Answers (o : Checked (Served Session)) (before : List ℕ) (r : Answer) (e : List ℕ) : Type 0 where
+  pub answer : r ≡ answerTo o
+  pub buffer : e ≡ bufferAfter o before

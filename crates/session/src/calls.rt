@@ -1,6 +1,7 @@
 // The calls: start, message, advertise. They lend the capability to the writer from the session itself, so that it is not copied.
-use crate::capabilities::given_out;
 use crate::configuration::configure;
+use crate::replies::answered;
+use crate::replies::refusal;
 use crate::replies::refused;
 use crate::replies::valid_profile;
 use crate::sets::common;
@@ -9,11 +10,22 @@ use crate::state::Session;
 use crate::state::Started;
 use crate::state::Step;
 use crate::state::fresh;
+use crate::state::no_nan;
+use crate::state::no_rssi;
+use crate::state::no_uwb;
+use crate::state::ranging_nan;
+use crate::state::ranging_rssi;
+use crate::state::ranging_uwb;
 use crate::stop::halt;
 use codec::Record;
+use codec::Written;
+use codec::has;
 use codec::refusal::NOT_FOR_TAG;
 use codec::refusal::NOT_VALID;
 ghost use mathlib.Core.Path.{_≡_};
+ghost use mathlib.Core.Bool.{cond, _&&_};
+ghost use lib.Dec.{eqb};
+ghost use Rattle.codec.specs.Technology.{bit};
 ghost use Rattle.session.specs.Rules.{message as heard, advertisement};
 ghost use Rattle.session.specs.Session.{sessionCall, Gives, profileOf, started};
 
@@ -43,42 +55,76 @@ pub fn start(profile: Record, replies: u8) -> Started
     }
 }
 
-// A message to the tag.
+// The mark after message 1 was written with these blocks, or refused.
+fn mark_given(blocks: u16, w: Written, mark: u8) -> u8
+    ensures { λ r. ⌜ r ≡ cond (bit blocks 0 && eqb (w .refusal) 0) 0 mark ⌝ }
+{
+    if has(blocks, 0) & (w.refusal == 0) {
+        0
+    } else {
+        mark
+    }
+}
+
+// A message to the tag. What the answer names is set or stopped where it lies, so that nothing else is copied.
 pub fn message(s: Session, octets: &[u8], out: &mut [u8]) -> Step
     ensures { λ r. ⌜ Gives s (sessionCall s (heard (now (octets .entry)) (now (out .entry)))) (now (out .entry)) r (now (out .exit)) ⌝ }
 {
-    if !valid_profile(s.profile) {
-        return refused(s, NOT_VALID);
+    let mut session = s;
+    if !valid_profile(session.profile) {
+        return refused(session, NOT_VALID);
     }
     let reading = codec::read_for_tag(octets);
     if reading.refusal != 0 {
-        return refused(s, reading.refusal);
+        return refused(session, reading.refusal);
     }
-    let id = reading.id;
     let set = reading.set;
-    match id {
+    let c = reading.configuration;
+    let id = reading.id;
+    let answer = match id {
         0 => {
-            let blocks = common(set, s.profile.set);
-            let w = codec::write_response(blocks, s.profile.capability, out);
-            given_out(s, set, w)
+            let blocks = common(set, session.profile.set);
+            let w = codec::write_response(blocks, session.profile.capability, out);
+            session.mark = mark_given(blocks, w, session.mark);
+            answered(w, 0, 0)
         }
-        2 => {
-            let c = reading.configuration;
-            configure(s, set, c, out)
-        }
-        6 => halt(s, set, out),
-        _ => refused(s, NOT_FOR_TAG),
+        2 => configure(session, set, c, out),
+        6 => halt(session, set, out),
+        _ => refusal(NOT_FOR_TAG),
+    };
+    if has(answer.set, 0) {
+        session.uwb = ranging_uwb(c.uwb);
     }
+    if has(answer.set, 2) {
+        session.nan = ranging_nan(c.nan);
+    }
+    if has(answer.set, 3) {
+        session.rssi = ranging_rssi(c.rssi);
+    }
+    if has(answer.stopped, 0) {
+        session.uwb = no_uwb();
+        session.mark = 1;
+    }
+    if has(answer.stopped, 2) {
+        session.nan = no_nan();
+    }
+    if has(answer.stopped, 3) {
+        session.rssi = no_rssi();
+    }
+    Step { session, answer }
 }
 
 // An advertisement of the whole profile.
 pub fn advertise(s: Session, out: &mut [u8]) -> Step
     ensures { λ r. ⌜ Gives s (sessionCall s (advertisement (now (out .entry)))) (now (out .entry)) r (now (out .exit)) ⌝ }
 {
-    if !valid_profile(s.profile) {
-        return refused(s, NOT_VALID);
+    let mut session = s;
+    let mut answer = refusal(NOT_VALID);
+    if valid_profile(session.profile) {
+        let blocks = common(15, session.profile.set);
+        let w = codec::write_response(blocks, session.profile.capability, out);
+        session.mark = mark_given(blocks, w, session.mark);
+        answer = answered(w, 0, 0);
     }
-    let blocks = common(15, s.profile.set);
-    let w = codec::write_response(blocks, s.profile.capability, out);
-    given_out(s, 15, w)
+    Step { session, answer }
 }

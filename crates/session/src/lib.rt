@@ -1,7 +1,5 @@
 // The tag's session: a profile, what ranges, and the calls that alter it.
 mod calls;
-mod capabilities;
-mod choose;
 mod configuration;
 mod replies;
 mod sets;

@@ -1,4 +1,5 @@
 // Answers: refusals, and the replies that carry a set.
+use crate::sets::worth;
 use crate::state::Answer;
 use crate::state::Profile;
 use crate::state::Session;
@@ -8,7 +9,7 @@ use codec::Written;
 ghost use mathlib.Core.Path.{_≡_};
 ghost use Prim.Native.Nat.{_<_};
 ghost use Rattle.session.specs.Rules.{validProfile, explicitReply};
-ghost use Rattle.session.specs.Replies.{Delivers};
+ghost use Rattle.session.specs.Replies.{Delivers, settle};
 
 pub(crate) fn valid_profile(p: Profile) -> bool
     ensures { λ r. ⌜ r ≡ validProfile p ⌝ }
@@ -17,18 +18,37 @@ pub(crate) fn valid_profile(p: Profile) -> bool
     codec::valid_response(p.set, capability) & (p.replies < 3)
 }
 
+pub(crate) fn refusal(number: u8) -> Answer
+    ensures { λ r. ⌜ r ≡ record { refusal = number; length = 0; set = 0; stopped = 0 } ⌝ }
+{
+    Answer {
+        refusal: number,
+        length: 0,
+        set: 0,
+        stopped: 0,
+    }
+}
+
 // A refusal leaves the session.
 pub(crate) fn refused(s: Session, number: u8) -> Step
     ensures { λ r. ⌜ r ≡ record { session = s; answer = record { refusal = number; length = 0; set = 0; stopped = 0 } } ⌝ }
 {
-    Step {
-        session: s,
-        answer: Answer {
-            refusal: number,
-            length: 0,
-            set: 0,
-            stopped: 0,
-        },
+    let answer = refusal(number);
+    Step { session: s, answer }
+}
+
+// The answer once a reply is written, or refused, in which case nothing is set or stopped.
+pub(crate) fn answered(w: Written, set: u16, stopped: u16) -> Answer
+    ensures { λ r. ⌜ r ≡ settle w set stopped ⌝ }
+{
+    let done = w.refusal == 0;
+    let now_set = worth(done, set);
+    let now_stopped = worth(done, stopped);
+    Answer {
+        refusal: w.refusal,
+        length: w.length,
+        set: now_set,
+        stopped: now_stopped,
     }
 }
 

@@ -67,6 +67,33 @@ pub struct Started {
     pub refusal: u8,
 }
 
+pub(crate) fn ranging_uwb(settings: UwbConfiguration) -> UwbState
+    ensures { λ r. ⌜ r ≡ record { ranging = 1; settings = settings } ⌝ }
+{
+    UwbState {
+        ranging: 1,
+        settings,
+    }
+}
+
+pub(crate) fn ranging_nan(settings: NanConfiguration) -> NanState
+    ensures { λ r. ⌜ r ≡ record { ranging = 1; settings = settings } ⌝ }
+{
+    NanState {
+        ranging: 1,
+        settings,
+    }
+}
+
+pub(crate) fn ranging_rssi(settings: Rssi) -> RssiState
+    ensures { λ r. ⌜ r ≡ record { ranging = 1; settings = settings } ⌝ }
+{
+    RssiState {
+        ranging: 1,
+        settings,
+    }
+}
+
 pub(crate) fn no_uwb() -> UwbState
     ensures { λ r. ⌜ r ≡ noUwb ⌝ }
 {
