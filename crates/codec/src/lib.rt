@@ -31,6 +31,7 @@ pub use records::Record;
 pub use records::SetMessage;
 pub use records::TagReading;
 pub use records::Written;
+pub use records::refused_for_tag;
 pub use records::zero_capability;
 pub use records::zero_nan;
 pub use records::zero_rssi;

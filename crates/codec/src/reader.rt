@@ -9,6 +9,7 @@ use crate::records::Reading;
 use crate::records::Record;
 use crate::records::TagReading;
 use crate::records::refused;
+use crate::records::refused_for_tag;
 use crate::records::zero_capability;
 use crate::records::zero_configuration;
 use crate::rssi;
@@ -141,13 +142,7 @@ pub fn read_for_tag(message: &[u8]) -> TagReading
     let mut found = [0u16; 5];
     let fault = message_fault(message, &mut found);
     if fault != 0 {
-        let configuration = zero_configuration();
-        return TagReading {
-            refusal: fault,
-            id: 0,
-            set: 0,
-            configuration,
-        };
+        return refused_for_tag(fault);
     }
     for_tag_at(message, &found)
 }

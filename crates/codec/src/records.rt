@@ -13,7 +13,7 @@ use crate::uwb::PreambleIndexes;
 use crate::uwb::UwbCapability;
 use crate::uwb::UwbConfiguration;
 ghost use mathlib.Core.Path.{_≡_};
-ghost use Rattle.codec.specs.Records.{capabilities, configurations, blank, messageId, refused};
+ghost use Rattle.codec.specs.Records.{capabilities, configurations, blank, messageId, refused, forTag};
 
 // What the blocks of message 1 say. An absent technology's fields are zero.
 #[repr(C)]
@@ -185,5 +185,17 @@ pub(crate) fn refused(number: u8) -> Reading
             capability,
             configuration,
         },
+    }
+}
+
+pub fn refused_for_tag(number: u8) -> TagReading
+    ensures { λ r. ⌜ r ≡ forTag (refused number) ⌝ }
+{
+    let configuration = zero_configuration();
+    TagReading {
+        refusal: number,
+        id: 0,
+        set: 0,
+        configuration,
     }
 }

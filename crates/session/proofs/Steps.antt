@@ -8,7 +8,7 @@ use lib.Dec.{eqb, ltb, leb}
 use lib.ListN.{length}
 use borrow.Author.Tests.{lt-ltb, le-leb, ne-eqb, eqb-true}
 use Rattle.codec.specs.Layout.{Layout, Values}
-use Rattle.codec.specs.Refusal.{Checked, refuse, accept, demand, notValid}
+use Rattle.codec.specs.Refusal.{Checked, refuse, accept, demand, andThen, notValid}
 use Rattle.codec.specs.Blocks.{uwbCapability, csCapability, nanCapability}
 use Rattle.codec.specs.Technology.{bit}
 use Rattle.codec.specs.Records.{capabilities, configurations, response, only, setRecord, accepted, answer, forTag, ofUwbCapability, ofCsCapability, ofNanCapability}
@@ -150,39 +150,45 @@ not-valid s c b h = rw h (record { session = refl; answer = refl; buffer = refl 
 same-id : {a : TagReading} (r : Record) (n : ℕ) → a ≡ forTag (accepted r) → a .id ≡ n → r .id ≡ n
 same-id r n q k = sym (ap (λ (y : TagReading). y .id) q) ∙ k
 
-module _ (s : Session) (m b : List ℕ) (v : validProfile (s .profile) ≡ true) {a : TagReading} (h : a ≡ forTag (answer (reading m))) where
-  pub not-read : (a .refusal ≡ 0 → ⊥) → Gives s (sessionCall s (message m b)) b (refusal s (a .refusal)) b
+module _ (s : Session) (m b : List ℕ) {a : TagReading} (h : a ≡ forTag (answer (demand (validProfile (s .profile)) notValid (reading m)))) where
+  -- the reader's refusals come after the profile's
+  heard : sessionCall s (message m b) ≡ andThen (demand (validProfile (s .profile)) notValid (reading m)) λ r. serve sessionKeeps (s .profile) (kindOf (r .id)) r s b
   unfolding sessionCall call
-  not-read z = go (reading m) refl
+  heard = by-bool (validProfile (s .profile)) (λ t. rw t) (λ t. rw t)
+
+  pub not-heard : (a .refusal ≡ 0 → ⊥) → Gives s (sessionCall s (message m b)) b (refusal s (a .refusal)) b
+  not-heard z = go _ refl
     where
-      go : (o : Checked Record) → reading m ≡ o → Gives s (sessionCall s (message m b)) b (refusal s (a .refusal)) b
-      go (refuse x) q = rw (v, h, q) (record { session = refl; answer = refl; buffer = refl })
+      go : (o : Checked Record) → demand (validProfile (s .profile)) notValid (reading m) ≡ o → Gives s (sessionCall s (message m b)) b (refusal s (a .refusal)) b
+      go (refuse x) q = rw (heard, h, q) (record { session = refl; answer = refl; buffer = refl })
       go (accept r) q = absurd (z (ap (λ (y : TagReading). y .refusal) (h ∙ ap (λ (o : Checked Record). forTag (answer o)) q)))
 
+  pub heard-valid : a .refusal ≡ 0 → validProfile (s .profile) ≡ true
+  heard-valid z = by-bool (validProfile (s .profile)) (λ t. t) (λ f. absurd (no-zero notValid (sym (ap (λ (y : TagReading). y .refusal) (h ∙ ap (λ (x : Bool). forTag (answer (demand x notValid (reading m)))) f)) ∙ z)))
+
   module _ (z : a .refusal ≡ 0) {w : Step} {e : List ℕ} where
-    was-read : ((r : Record) → a ≡ forTag (accepted r) → Gives s (serve sessionKeeps (s .profile) (kindOf (r .id)) r s b) b w e) → Gives s (sessionCall s (message m b)) b w e
-    unfolding sessionCall call
-    was-read g = go (reading m) refl
+    was-heard : ((r : Record) → a ≡ forTag (accepted r) → Gives s (serve sessionKeeps (s .profile) (kindOf (r .id)) r s b) b w e) → Gives s (sessionCall s (message m b)) b w e
+    was-heard g = go _ refl
       where
-        go : (o : Checked Record) → reading m ≡ o → Gives s (sessionCall s (message m b)) b w e
+        go : (o : Checked Record) → demand (validProfile (s .profile)) notValid (reading m) ≡ o → Gives s (sessionCall s (message m b)) b w e
         go (refuse x) q = absurd (no-zero x (sym (ap (λ (y : TagReading). y .refusal) (h ∙ ap (λ (o : Checked Record). forTag (answer o)) q)) ∙ z))
-        go (accept r) q = rw (v, q) (g r (h ∙ ap (λ (o : Checked Record). forTag (answer o)) q))
+        go (accept r) q = rw (heard, q) (g r (h ∙ ap (λ (o : Checked Record). forTag (answer o)) q))
 
     pub a-request : a .id ≡ 0 → Gives s (conclude b (giveOut sessionKeeps (s .profile) (names (a .set)) s)) b w e → Gives s (sessionCall s (message m b)) b w e
     unfolding serve
-    a-request k g = was-read λ r q. by-kind s r request (ap kindOf (same-id r 0 q k)) (subst (λ (y : TagReading). Gives s (conclude b (giveOut sessionKeeps (s .profile) (names (y .set)) s)) b w e) q g)
+    a-request k g = was-heard λ r q. by-kind s r request (ap kindOf (same-id r 0 q k)) (subst (λ (y : TagReading). Gives s (conclude b (giveOut sessionKeeps (s .profile) (names (y .set)) s)) b w e) q g)
 
     pub a-configuration : a .id ≡ 2 → Gives s (conclude b (configure sessionKeeps (s .profile) (a .set) (a .configuration) s)) b w e → Gives s (sessionCall s (message m b)) b w e
     unfolding serve
-    a-configuration k g = was-read λ r q. by-kind s r configuration (ap kindOf (same-id r 2 q k)) (subst (λ (y : TagReading). Gives s (conclude b (configure sessionKeeps (s .profile) (y .set) (y .configuration) s)) b w e) q g)
+    a-configuration k g = was-heard λ r q. by-kind s r configuration (ap kindOf (same-id r 2 q k)) (subst (λ (y : TagReading). Gives s (conclude b (configure sessionKeeps (s .profile) (y .set) (y .configuration) s)) b w e) q g)
 
     pub a-stop : a .id ≡ 6 → Gives s (conclude b (halt sessionKeeps (s .profile) (a .set) s)) b w e → Gives s (sessionCall s (message m b)) b w e
     unfolding serve
-    a-stop k g = was-read λ r q. by-kind s r stop (ap kindOf (same-id r 6 q k)) (subst (λ (y : TagReading). Gives s (conclude b (halt sessionKeeps (s .profile) (y .set) s)) b w e) q g)
+    a-stop k g = was-heard λ r q. by-kind s r stop (ap kindOf (same-id r 6 q k)) (subst (λ (y : TagReading). Gives s (conclude b (halt sessionKeeps (s .profile) (y .set) s)) b w e) q g)
 
   pub another : a .refusal ≡ 0 → (a .id ≡ 0 → ⊥) → (a .id ≡ 2 → ⊥) → (a .id ≡ 6 → ⊥) → Gives s (sessionCall s (message m b)) b (refusal s 10) b
   unfolding serve
-  another z h k l = was-read z λ r q. let i = ap (λ (y : TagReading). y .id) q in
+  another z h k l = was-heard z λ r q. let i = ap (λ (y : TagReading). y .id) q in
       by-kind s r other (rw (ne-eqb (r .id) 0 (λ x. h (i ∙ x)), ne-eqb (r .id) 2 (λ x. k (i ∙ x)), ne-eqb (r .id) 6 (λ x. l (i ∙ x)))) (record { session = refl; answer = refl; buffer = refl })
 
 -- an advertisement wants every technology

@@ -18,6 +18,7 @@ use crate::state::ranging_rssi;
 use crate::state::ranging_uwb;
 use crate::stop::halt;
 use codec::Record;
+use codec::TagReading;
 use codec::Written;
 use codec::has;
 use codec::refusal::NOT_FOR_TAG;
@@ -25,8 +26,11 @@ use codec::refusal::NOT_VALID;
 ghost use mathlib.Core.Path.{_≡_};
 ghost use mathlib.Core.Bool.{cond, _&&_};
 ghost use lib.Dec.{eqb};
+ghost use Rattle.codec.specs.Refusal.{demand, notValid};
 ghost use Rattle.codec.specs.Technology.{bit};
-ghost use Rattle.session.specs.Rules.{message as heard, advertisement};
+ghost use Rattle.codec.specs.Records.{answer, forTag};
+ghost use Rattle.codec.specs.Message.{reading};
+ghost use Rattle.session.specs.Rules.{message as messageCall, advertisement, validProfile};
 ghost use Rattle.session.specs.Session.{sessionCall, Gives, profileOf, started};
 
 // A session with an accepted profile, or 12 and a fresh session with an empty one, replies not said.
@@ -66,21 +70,28 @@ fn mark_given(blocks: u16, w: Written, mark: u8) -> u8
     }
 }
 
+// What a tag with this profile hears: 12 if the profile is not valid, else what the reader says.
+fn hear(profile: Profile, octets: &[u8]) -> TagReading
+    ensures { λ r. ⌜ r ≡ forTag (answer (demand (validProfile profile) notValid (reading (now (octets .entry))))) ⌝ }
+{
+    if !valid_profile(profile) {
+        return codec::refused_for_tag(NOT_VALID);
+    }
+    codec::read_for_tag(octets)
+}
+
 // A message to the tag. What the answer names is set or stopped where it lies, so that nothing else is copied.
 pub fn message(s: Session, octets: &[u8], out: &mut [u8]) -> Step
-    ensures { λ r. ⌜ Gives s (sessionCall s (heard (now (octets .entry)) (now (out .entry)))) (now (out .entry)) r (now (out .exit)) ⌝ }
+    ensures { λ r. ⌜ Gives s (sessionCall s (messageCall (now (octets .entry)) (now (out .entry)))) (now (out .entry)) r (now (out .exit)) ⌝ }
 {
     let mut session = s;
-    if !valid_profile(session.profile) {
-        return refused(session, NOT_VALID);
+    let heard = hear(session.profile, octets);
+    if heard.refusal != 0 {
+        return refused(session, heard.refusal);
     }
-    let reading = codec::read_for_tag(octets);
-    if reading.refusal != 0 {
-        return refused(session, reading.refusal);
-    }
-    let set = reading.set;
-    let c = reading.configuration;
-    let id = reading.id;
+    let set = heard.set;
+    let c = heard.configuration;
+    let id = heard.id;
     let answer = match id {
         0 => {
             let blocks = common(set, session.profile.set);

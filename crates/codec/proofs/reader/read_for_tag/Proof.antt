@@ -12,11 +12,11 @@ found c = found-by (c .before .before .before .before .args .message .now) (λ i
 message-fault-requires : tie.Need-message-fault-requires
 message-fault-requires c κs = search needs
 
-zero-configuration-requires : tie.Need-zero-configuration-requires
-zero-configuration-requires c κs = search needs
+refused-for-tag-requires : tie.Need-refused-for-tag-requires
+refused-for-tag-requires c κs = search needs
 
 returns : tie.Need-returns
-returns c = rw (c .zero-configuration .ensures) (ap forTag (reads-refused _ _ (c .before .before .message-fault .ensures .number) (c .before .if1 .taken)))
+returns c = rw (c .refused-for-tag .ensures) (ap forTag (reads-refused _ _ (c .before .before .message-fault .ensures .number) (c .before .if1 .taken)))
 
 for-tag-at-requires : tie.Need-for-tag-at-requires
 for-tag-at-requires c κs = (found (c .before) .four, found (c .before) .placed)
@@ -29,7 +29,7 @@ read-for-tag-spec =
     tie.close
     (tie.spec
     message-fault-requires
-    zero-configuration-requires
+    refused-for-tag-requires
     returns
     for-tag-at-requires
     returns-2)

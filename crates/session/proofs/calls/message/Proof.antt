@@ -2,69 +2,59 @@ use lib.ListN.{length}
 use mathlib.Core.Bool.{Bool, true, false}
 use mathlib.Core.Logic.{⊎-elim}
 use mathlib.Core.Path.{_≡_, _∙_, sym, subst}
-use Rattle.codec.proofs.Laws.{failed, passed}
 use Rattle.session.specs.Technology.{uwb, nan, rssi, among, names}
 use Rattle.session.specs.Rules.{message}
 use Rattle.session.specs.Session.{sessionKeeps, sessionCall, Gives}
-use Rattle.session.proofs.Steps.{not-valid, not-read, a-request, a-configuration, a-stop, another, given, follow, follow-none, follow-configure, follow-halt, with-session}
+use Rattle.session.proofs.Steps.{not-heard, heard-valid, a-request, a-configuration, a-stop, another, given, follow, follow-none, follow-configure, follow-halt, with-session}
 use borrow.Author.Needs.{needs}
 use Rattle.session.proofs.calls.message.Statement.{statement}
 use Rattle.session.proofs.calls.message.Tie as tie
 
 -- what the kinds of message answer
-by-kind : (c : tie.At-match-came) → Gives (c .before .before .before .before .before .before .before .before .before .args .s) (sessionCall (c .before .before .before .before .before .before .before .before .before .args .s) (message (c .before .before .before .before .before .before .before .before .before .args .octets .now) (c .before .before .before .before .before .before .before .before .before .args .out .now))) (c .before .before .before .before .before .before .before .before .before .args .out .now) (record { session = follow (c .before .before .before .before .read-for-tag .result .configuration) (c .match .answer) (c .match .session); answer = c .match .answer }) (c .match .out)
+by-kind : (c : tie.At-match-came) → Gives (c .before .before .before .before .before .before .before .args .s) (sessionCall (c .before .before .before .before .before .before .before .args .s) (message (c .before .before .before .before .before .before .before .args .octets .now) (c .before .before .before .before .before .before .before .args .out .now))) (c .before .before .before .before .before .before .before .args .out .now) (record { session = follow (c .before .before .before .before .hear .result .configuration) (c .match .answer) (c .match .session); answer = c .match .answer }) (c .match .out)
 by-kind c = ⊎-elim
-    (λ w. rw (w .8, w .9, w .10, w .7 .ensures) (with-session (follow-none (c .before .before .before .before .read-for-tag .result .configuration) (w .3 .result) _) (a-request (c .before .before .before .before .before .before .before .before .before .args .s) (c .before .before .before .before .before .before .before .before .before .args .octets .now) (c .before .before .before .before .before .before .before .before .before .args .out .now) (passed (c .before .before .before .before .before .before .valid-profile .ensures) (c .before .before .before .before .before .if1 .left)) (c .before .before .before .before .read-for-tag .ensures) (c .before .before .if2 .left) (w .0 .keys1) (given (c .before .before .before .before .before .before .before .before .before .args .s) (c .before .before .before .before .read-for-tag .result .set) (w .1 .ensures) (w .6 .ensures) (passed (c .before .before .before .before .before .before .valid-profile .ensures) (c .before .before .before .before .before .if1 .left)) (w .3 .ensures)))))
+    (λ w. rw (w .8, w .9, w .10, w .7 .ensures) (with-session (follow-none (c .before .before .before .before .hear .result .configuration) (w .3 .result) _) (a-request (c .before .before .before .before .before .before .before .args .s) (c .before .before .before .before .before .before .before .args .octets .now) (c .before .before .before .before .before .before .before .args .out .now) (c .before .before .before .before .hear .ensures) (c .before .before .if1 .left) (w .0 .keys1) (given (c .before .before .before .before .before .before .before .args .s) (c .before .before .before .before .hear .result .set) (w .1 .ensures) (w .6 .ensures) (heard-valid (c .before .before .before .before .before .before .before .args .s) (c .before .before .before .before .before .before .before .args .octets .now) (c .before .before .before .before .before .before .before .args .out .now) (c .before .before .before .before .hear .ensures) (c .before .before .if1 .left)) (w .3 .ensures)))))
     (⊎-elim
-    (λ w. rw (w .5, w .6, w .7) (a-configuration (c .before .before .before .before .before .before .before .before .before .args .s) (c .before .before .before .before .before .before .before .before .before .args .octets .now) (c .before .before .before .before .before .before .before .before .before .args .out .now) (passed (c .before .before .before .before .before .before .valid-profile .ensures) (c .before .before .before .before .before .if1 .left)) (c .before .before .before .before .read-for-tag .ensures) (c .before .before .if2 .left) (w .0 .keys2) (record { session = rw (w .2 .ensures .answer) (follow-configure (c .before .before .before .before .before .before .before .before .before .args .s) (c .before .before .before .before .read-for-tag .result .set) (c .before .before .before .before .before .before .before .before .before .args .out .now) (c .before .before .before .before .read-for-tag .result .configuration)); answer = w .2 .ensures .answer; buffer = w .2 .ensures .buffer })))
+    (λ w. rw (w .5, w .6, w .7) (a-configuration (c .before .before .before .before .before .before .before .args .s) (c .before .before .before .before .before .before .before .args .octets .now) (c .before .before .before .before .before .before .before .args .out .now) (c .before .before .before .before .hear .ensures) (c .before .before .if1 .left) (w .0 .keys2) (record { session = rw (w .2 .ensures .answer) (follow-configure (c .before .before .before .before .before .before .before .args .s) (c .before .before .before .before .hear .result .set) (c .before .before .before .before .before .before .before .args .out .now) (c .before .before .before .before .hear .result .configuration)); answer = w .2 .ensures .answer; buffer = w .2 .ensures .buffer })))
     (⊎-elim
-    (λ w. rw (w .5, w .6, w .7) (a-stop (c .before .before .before .before .before .before .before .before .before .args .s) (c .before .before .before .before .before .before .before .before .before .args .octets .now) (c .before .before .before .before .before .before .before .before .before .args .out .now) (passed (c .before .before .before .before .before .before .valid-profile .ensures) (c .before .before .before .before .before .if1 .left)) (c .before .before .before .before .read-for-tag .ensures) (c .before .before .if2 .left) (w .0 .keys3) (record { session = rw (w .2 .ensures .answer) (follow-halt (c .before .before .before .before .before .before .before .before .before .args .s) (c .before .before .before .before .read-for-tag .result .set) (c .before .before .before .before .before .before .before .before .before .args .out .now) (c .before .before .before .before .read-for-tag .result .configuration)); answer = w .2 .ensures .answer; buffer = w .2 .ensures .buffer })))
-    (λ w. let no = w .0 .rest in rw (w .2, w .3, w .4, w .1 .ensures) (another (c .before .before .before .before .before .before .before .before .before .args .s) (c .before .before .before .before .before .before .before .before .before .args .octets .now) (c .before .before .before .before .before .before .before .before .before .args .out .now) (passed (c .before .before .before .before .before .before .valid-profile .ensures) (c .before .before .before .before .before .if1 .left)) (c .before .before .before .before .read-for-tag .ensures) (c .before .before .if2 .left) (no .0 .0 .1) (no .0 .1) (no .1)))))
+    (λ w. rw (w .5, w .6, w .7) (a-stop (c .before .before .before .before .before .before .before .args .s) (c .before .before .before .before .before .before .before .args .octets .now) (c .before .before .before .before .before .before .before .args .out .now) (c .before .before .before .before .hear .ensures) (c .before .before .if1 .left) (w .0 .keys3) (record { session = rw (w .2 .ensures .answer) (follow-halt (c .before .before .before .before .before .before .before .args .s) (c .before .before .before .before .hear .result .set) (c .before .before .before .before .before .before .before .args .out .now) (c .before .before .before .before .hear .result .configuration)); answer = w .2 .ensures .answer; buffer = w .2 .ensures .buffer })))
+    (λ w. let no = w .0 .rest in rw (w .2, w .3, w .4, w .1 .ensures) (another (c .before .before .before .before .before .before .before .args .s) (c .before .before .before .before .before .before .before .args .octets .now) (c .before .before .before .before .before .before .before .args .out .now) (c .before .before .before .before .hear .ensures) (c .before .before .if1 .left) (no .0 .0 .1) (no .0 .1) (no .1)))))
     (c .match .came)
 
 -- what the answer names is set
-set-uwb : (c : tie.Joined3) → c .if3 .session ≡ sessionKeeps .put (among (names (c .before .before .match .answer .set) uwb) false false false) (c .before .before .before .before .before .before .read-for-tag .result .configuration) (c .before .before .match .session)
-set-uwb c = ⊎-elim (λ w. rw (w .2, w .1 .ensures, sym (c .before .has .ensures) ∙ w .0 .taken)) (λ w. rw (w .1, sym (c .before .has .ensures) ∙ w .0 .left)) (c .if3 .came)
+set-uwb : (c : tie.Joined2) → c .if2 .session ≡ sessionKeeps .put (among (names (c .before .before .match .answer .set) uwb) false false false) (c .before .before .before .before .before .before .hear .result .configuration) (c .before .before .match .session)
+set-uwb c = ⊎-elim (λ w. rw (w .2, w .1 .ensures, sym (c .before .has .ensures) ∙ w .0 .taken)) (λ w. rw (w .1, sym (c .before .has .ensures) ∙ w .0 .left)) (c .if2 .came)
 
-set-nan : (c : tie.Joined4) → c .if4 .session ≡ sessionKeeps .put (among false false (names (c .before .before .before .before .match .answer .set) nan) false) (c .before .before .before .before .before .before .before .before .read-for-tag .result .configuration) (c .before .before .if3 .session)
-set-nan c = ⊎-elim (λ w. rw (w .2, w .1 .ensures, sym (c .before .has2 .ensures) ∙ w .0 .taken)) (λ w. rw (w .1, sym (c .before .has2 .ensures) ∙ w .0 .left)) (c .if4 .came)
+set-nan : (c : tie.Joined3) → c .if3 .session ≡ sessionKeeps .put (among false false (names (c .before .before .before .before .match .answer .set) nan) false) (c .before .before .before .before .before .before .before .before .hear .result .configuration) (c .before .before .if2 .session)
+set-nan c = ⊎-elim (λ w. rw (w .2, w .1 .ensures, sym (c .before .has2 .ensures) ∙ w .0 .taken)) (λ w. rw (w .1, sym (c .before .has2 .ensures) ∙ w .0 .left)) (c .if3 .came)
 
-set-rssi : (c : tie.Joined5) → c .if5 .session ≡ sessionKeeps .put (among false false false (names (c .before .before .before .before .before .before .match .answer .set) rssi)) (c .before .before .before .before .before .before .before .before .before .before .read-for-tag .result .configuration) (c .before .before .if4 .session)
-set-rssi c = ⊎-elim (λ w. rw (w .2, w .1 .ensures, sym (c .before .has3 .ensures) ∙ w .0 .taken)) (λ w. rw (w .1, sym (c .before .has3 .ensures) ∙ w .0 .left)) (c .if5 .came)
+set-rssi : (c : tie.Joined4) → c .if4 .session ≡ sessionKeeps .put (among false false false (names (c .before .before .before .before .before .before .match .answer .set) rssi)) (c .before .before .before .before .before .before .before .before .before .before .hear .result .configuration) (c .before .before .if3 .session)
+set-rssi c = ⊎-elim (λ w. rw (w .2, w .1 .ensures, sym (c .before .has3 .ensures) ∙ w .0 .taken)) (λ w. rw (w .1, sym (c .before .has3 .ensures) ∙ w .0 .left)) (c .if4 .came)
 
 -- and stopped
-stop-uwb : (c : tie.Joined6) → c .if6 .session ≡ sessionKeeps .stop (among (names (c .before .before .before .before .before .before .before .before .match .answer .stopped) uwb) false false false) (c .before .before .if5 .session)
-stop-uwb c = ⊎-elim (λ w. rw (w .2, w .1 .ensures, sym (c .before .has4 .ensures) ∙ w .0 .taken)) (λ w. rw (w .1, sym (c .before .has4 .ensures) ∙ w .0 .left)) (c .if6 .came)
+stop-uwb : (c : tie.Joined5) → c .if5 .session ≡ sessionKeeps .stop (among (names (c .before .before .before .before .before .before .before .before .match .answer .stopped) uwb) false false false) (c .before .before .if4 .session)
+stop-uwb c = ⊎-elim (λ w. rw (w .2, w .1 .ensures, sym (c .before .has4 .ensures) ∙ w .0 .taken)) (λ w. rw (w .1, sym (c .before .has4 .ensures) ∙ w .0 .left)) (c .if5 .came)
 
-stop-nan : (c : tie.Joined7) → c .if7 .session ≡ sessionKeeps .stop (among false false (names (c .before .before .before .before .before .before .before .before .before .before .match .answer .stopped) nan) false) (c .before .before .if6 .session)
-stop-nan c = ⊎-elim (λ w. rw (w .2, w .1 .ensures, sym (c .before .has5 .ensures) ∙ w .0 .taken)) (λ w. rw (w .1, sym (c .before .has5 .ensures) ∙ w .0 .left)) (c .if7 .came)
+stop-nan : (c : tie.Joined6) → c .if6 .session ≡ sessionKeeps .stop (among false false (names (c .before .before .before .before .before .before .before .before .before .before .match .answer .stopped) nan) false) (c .before .before .if5 .session)
+stop-nan c = ⊎-elim (λ w. rw (w .2, w .1 .ensures, sym (c .before .has5 .ensures) ∙ w .0 .taken)) (λ w. rw (w .1, sym (c .before .has5 .ensures) ∙ w .0 .left)) (c .if6 .came)
 
-all-followed : (c : tie.Joined7) → sessionKeeps .stop (among false false false (names (c .before .before .before .before .before .before .before .before .before .before .match .answer .stopped) rssi)) (c .if7 .session) ≡ follow (c .before .before .before .before .before .before .before .before .before .before .before .before .before .before .read-for-tag .result .configuration) (c .before .before .before .before .before .before .before .before .before .before .match .answer) (c .before .before .before .before .before .before .before .before .before .before .match .session)
+all-followed : (c : tie.Joined6) → sessionKeeps .stop (among false false false (names (c .before .before .before .before .before .before .before .before .before .before .match .answer .stopped) rssi)) (c .if6 .session) ≡ follow (c .before .before .before .before .before .before .before .before .before .before .before .before .before .before .hear .result .configuration) (c .before .before .before .before .before .before .before .before .before .before .match .answer) (c .before .before .before .before .before .before .before .before .before .before .match .session)
 all-followed c = rw (stop-nan c, stop-uwb ((c .before .before)), set-rssi ((c .before .before .before .before)), set-nan ((c .before .before .before .before .before .before)), set-uwb ((c .before .before .before .before .before .before .before .before)))
 
-finish : (c : tie.Joined7) (ended : Bool) → names (c .before .before .before .before .before .before .before .before .before .before .match .answer .stopped) rssi ≡ ended → Gives (c .before .before .before .before .before .before .before .before .before .before .before .before .before .before .before .before .before .before .before .args .s) (sessionCall (c .before .before .before .before .before .before .before .before .before .before .before .before .before .before .before .before .before .before .before .args .s) (message (c .before .before .before .before .before .before .before .before .before .before .before .before .before .before .before .before .before .before .before .args .octets .now) (c .before .before .before .before .before .before .before .before .before .before .before .before .before .before .before .before .before .before .before .args .out .now))) (c .before .before .before .before .before .before .before .before .before .before .before .before .before .before .before .before .before .before .before .args .out .now) (record { session = sessionKeeps .stop (among false false false ended) (c .if7 .session); answer = c .before .before .before .before .before .before .before .before .before .before .match .answer }) (c .before .before .before .before .before .before .before .before .before .before .match .out)
-finish c ended h = with-session (subst (λ (x : Bool). sessionKeeps .stop (among false false false x) (c .if7 .session) ≡ follow (c .before .before .before .before .before .before .before .before .before .before .before .before .before .before .read-for-tag .result .configuration) (c .before .before .before .before .before .before .before .before .before .before .match .answer) (c .before .before .before .before .before .before .before .before .before .before .match .session)) h (all-followed c)) (by-kind ((c .before .before .before .before .before .before .before .before .before .before)))
+finish : (c : tie.Joined6) (ended : Bool) → names (c .before .before .before .before .before .before .before .before .before .before .match .answer .stopped) rssi ≡ ended → Gives (c .before .before .before .before .before .before .before .before .before .before .before .before .before .before .before .before .before .args .s) (sessionCall (c .before .before .before .before .before .before .before .before .before .before .before .before .before .before .before .before .before .args .s) (message (c .before .before .before .before .before .before .before .before .before .before .before .before .before .before .before .before .before .args .octets .now) (c .before .before .before .before .before .before .before .before .before .before .before .before .before .before .before .before .before .args .out .now))) (c .before .before .before .before .before .before .before .before .before .before .before .before .before .before .before .before .before .args .out .now) (record { session = sessionKeeps .stop (among false false false ended) (c .if6 .session); answer = c .before .before .before .before .before .before .before .before .before .before .match .answer }) (c .before .before .before .before .before .before .before .before .before .before .match .out)
+finish c ended h = with-session (subst (λ (x : Bool). sessionKeeps .stop (among false false false x) (c .if6 .session) ≡ follow (c .before .before .before .before .before .before .before .before .before .before .before .before .before .before .hear .result .configuration) (c .before .before .before .before .before .before .before .before .before .before .match .answer) (c .before .before .before .before .before .before .before .before .before .before .match .session)) h (all-followed c)) (by-kind ((c .before .before .before .before .before .before .before .before .before .before)))
 
-kept : (c : tie.At-match-came) → length (c .match .out) ≡ length (c .before .before .before .before .before .before .before .before .before .args .out .now)
+kept : (c : tie.At-match-came) → length (c .match .out) ≡ length (c .before .before .before .before .before .before .before .args .out .now)
 kept c = ⊎-elim (λ w. rw (w .8) (w .4 .given)) (⊎-elim (λ w. rw (w .5) (w .3 .given)) (⊎-elim (λ w. rw (w .5) (w .3 .given)) (λ w. rw (w .2)))) (c .match .came)
 
-valid-profile-requires : tie.Need-valid-profile-requires
-valid-profile-requires c κs = search needs
+hear-requires : tie.Need-hear-requires
+hear-requires c κs = search needs
 
 refused-requires : tie.Need-refused-requires
 refused-requires c κs = search needs
 
 returns : tie.Need-returns
-returns c = rw (c .refused .ensures) (not-valid (c .before .before .before .before .before .args .s) (message (c .before .before .before .before .before .args .octets .now) (c .before .before .before .before .before .args .out .now)) (c .before .before .before .before .before .args .out .now) (failed (c .before .before .valid-profile .ensures) (c .before .if1 .taken)))
-
-read-for-tag-requires : tie.Need-read-for-tag-requires
-read-for-tag-requires c κs = search needs
-
-refused-requires-2 : tie.Need-refused-requires-2
-refused-requires-2 c κs = search needs
-
-returns-2 : tie.Need-returns-2
-returns-2 c = rw (c .refused2 .ensures) (not-read (c .before .before .before .before .before .before .before .before .args .s) (c .before .before .before .before .before .before .before .before .args .octets .now) (c .before .before .before .before .before .before .before .before .args .out .now) (passed (c .before .before .before .before .before .valid-profile .ensures) (c .before .before .before .before .if1 .left)) (c .before .before .before .read-for-tag .ensures) (c .before .if2 .taken))
+returns c = rw (c .refused .ensures) (not-heard (c .before .before .before .before .before .before .args .s) (c .before .before .before .before .before .before .args .octets .now) (c .before .before .before .before .before .before .args .out .now) (c .before .before .before .hear .ensures) (c .before .if1 .taken))
 
 common-requires : tie.Need-common-requires
 common-requires c κs = search needs
@@ -126,25 +116,22 @@ no-rssi-requires c κs = search needs
 same-length : tie.Need-same-length
 same-length c = kept ((c .before .before .before .before .before .before .before .before .before .before .before .before .before))
 
-returns-3 : tie.Need-returns-3
-returns-3 c = rw (c .no-rssi .ensures) (finish ((c .before .before .before)) true (sym (c .before .before .has6 .ensures) ∙ c .before .if8 .taken))
+returns-2 : tie.Need-returns-2
+returns-2 c = rw (c .no-rssi .ensures) (finish ((c .before .before .before)) true (sym (c .before .before .has6 .ensures) ∙ c .before .if7 .taken))
 
 same-length-2 : tie.Need-same-length-2
 same-length-2 c = kept ((c .before .before .before .before .before .before .before .before .before .before .before .before))
 
-returns-4 : tie.Need-returns-4
-returns-4 c = finish ((c .before .before)) false (sym (c .before .has6 .ensures) ∙ c .if8 .left)
+returns-3 : tie.Need-returns-3
+returns-3 c = finish ((c .before .before)) false (sym (c .before .has6 .ensures) ∙ c .if7 .left)
 
 pub message-spec : {M : Type 1} → statement M
 message-spec =
     tie.close
     (tie.spec
-    valid-profile-requires
+    hear-requires
     refused-requires
     returns
-    read-for-tag-requires
-    refused-requires-2
-    returns-2
     common-requires
     write-response-requires
     mark-given-requires
@@ -165,6 +152,6 @@ message-spec =
     has-requires-6
     no-rssi-requires
     same-length
-    returns-3
+    returns-2
     same-length-2
-    returns-4)
+    returns-3)
