@@ -1,9 +1,9 @@
 -- The bits of a set.
 use Prim.Native.Nat.{ℕ, zero, suc, _*_, _/_, _%_, _^_, _≤_, _<_}
 use native.Mathlib.Omega.{arith}
-use native.Mathlib.Nat.{div-eq-of-lt, lt-of-lt-of-le, pow-suc, add-comm, one-mul, mod-eq-of-lt, zero-div}
+use native.Mathlib.Nat.{div-eq-of-lt, lt-of-lt-of-le, pow-suc, add-comm, one-mul, mod-eq-of-lt}
 use native.Mathlib.Numerals.{add-one}
-use mathlib.Core.Path.{_≡_, refl, sym, ap, _∙_, fun-ext}
+use mathlib.Core.Path.{_≡_, refl, sym, ap, _∙_}
 use mathlib.Core.Bool.{Bool, true, false, _&&_, not, cond}
 use lib.Dec.{leb, eqb, eqb·suc-zero, eqb·zero-suc, eqb·suc-suc}
 use borrow.Author.Tests.{leb-true, leb-false, eqb-true}

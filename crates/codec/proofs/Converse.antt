@@ -11,9 +11,9 @@ use lib.ListN.{length, getD, take}
 use lib.Seq.{take-length}
 use borrow.Author.Tests.{eqb-true, eq-eqb, ne-eqb, lt-ltb}
 use Rattle.codec.specs.Octets.{Octets}
-use Rattle.codec.specs.Layout.{Layout, Values, zeroes, allowed, Typed, write, value, need}
+use Rattle.codec.specs.Layout.{Layout, Values, zeroes, Typed, write, value, need}
 use Rattle.codec.specs.Technology.{bit, known}
-use Rattle.codec.specs.Records.{Column, capabilities, configurations, blank, accepted}
+use Rattle.codec.specs.Records.{Column, capabilities, configurations, blank}
 use Rattle.codec.specs.Message.{fieldsIn, columnOf, recordOf}
 use Rattle.codec.specs.WellFormed.{Whole, Each, Once, sets, WellFormed}
 use Rattle.codec.specs.Valid.{TypedRecord, validFields, setIn, validColumn, valid}

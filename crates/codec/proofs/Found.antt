@@ -2,7 +2,7 @@
 use Prim.Native.Nat.{ℕ, zero, suc, _+_, _≤_, _<_}
 use native.Mathlib.Omega.{arith}
 use mathlib.Core.Path.{_≡_, refl, sym, ap, _∙_, subst, fun-ext}
-use mathlib.Core.Bool.{Bool, true, false, not, cond}
+use mathlib.Core.Bool.{Bool, true, false, cond}
 use mathlib.Core.List.{List, [], _∷_}
 use lib.Dec.{leb, ltb, eqb}
 use lib.ListN.{length, getD, set, replicate, getD-replicate, length-set}
@@ -17,7 +17,7 @@ use Rattle.codec.specs.Places.{Roomy, note, noted, Judged, blockOrZeros,
 use Rattle.codec.specs.Records.{blank, capabilities, configurations, answer, accepted, refused}
 use Rattle.codec.proofs.Outcomes.{by-bool, by-number, and-true, or-false, demanded, chained}
 use Rattle.codec.proofs.BlockCases.{no-fields}
-use Rattle.codec.proofs.Layouts.{block, block-fits, block-zeros, roomy}
+use Rattle.codec.proofs.Layouts.{block-fits, block-zeros, roomy}
 use Rattle.codec.proofs.WalkCases.{Sound, sound}
 
 module _ (m : List ℕ) (o : Octets m) (id : ℕ) (known : id < 4) where

@@ -13,7 +13,7 @@ use Rattle.codec.specs.Octets.{Octets, toLE}
 use Rattle.codec.specs.Layout.{need}
 use Rattle.codec.specs.Technology.{known}
 use Rattle.codec.specs.Records.{capabilities, configurations}
-use Rattle.codec.specs.Message.{messageLimit, assigned, blockCount, layoutsOf, recordOf, reading}
+use Rattle.codec.specs.Message.{messageLimit, assigned, blockCount, layoutsOf, recordOf}
 use Rattle.codec.specs.WellFormed.{Whole, Each, sets, WellFormed}
 use Rattle.codec.specs.Valid.{TypedRecord, setIn, validColumn, valid}
 use Rattle.codec.specs.NormalForm.{columnBlocks, blocksOf, normal, Rising, NormalForm}

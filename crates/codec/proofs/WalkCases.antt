@@ -11,15 +11,13 @@ use lib.ListN.{length, getD, drop, set}
 use lib.Seq.{getD-take, getD-drop, getD-set-same}
 use borrow.Author.Tests.{le-leb, lt-leb, leb-true, leb-false}
 use Rattle.codec.specs.Refusal.{Checked, refuse, accept, demand, andThen, numberIn, endsEarly, wrongBlock, blockTooSmall}
-use Rattle.codec.specs.Octets.{Octets}
 use Rattle.codec.specs.Layout.{Layout, least, fault}
 use Rattle.codec.specs.Technology.{bit}
 use Rattle.codec.specs.Message.{idOf, setOf, layoutsOf, blockAt, noId, also, blockFault, Walked, prepend, walk}
 use Rattle.codec.specs.Places.{sizeFault, fieldsFault, awaitedFault, Awaits, note, noted, Finds}
 use Rattle.codec.proofs.Laws.{part-length}
-use Rattle.codec.proofs.Outcomes.{by-bool, by-number, and-true, demanded, chained}
+use Rattle.codec.proofs.Outcomes.{by-bool, by-number, demanded, chained}
 use Rattle.codec.proofs.BlockCases.{no-layout}
-use Rattle.codec.proofs.Bits.{bit-under}
 use Rattle.codec.proofs.Layouts.{least-from}
 
 -- what is left of a message from a place on
@@ -158,9 +156,6 @@ module _ (m : List ℕ) (came : ℕ → Bool) (at : ℕ) where
         size = part-length at (getD m (at + 1) 0) m whole;
         first = getD-take (getD m (at + 1) 0) (drop at m) 0 0 some ∙ getD-drop at m 0 0 ∙ ap (λ (i : ℕ). getD m i 0) (add-zero at);
       }
-
-  pub sound-if : {f : ℕ} → f ≡ numberIn (blockFault m came at) → f ≡ 0 → Sound
-  sound-if e z = by-number (blockFault m came at) (sym e ∙ z) λ u a. sound a
 
   -- one turn of the walk
   pub find-none : (n : ℕ) (found : List ℕ) → length found ≡ 5 → n ≡ 0 → Finds (walk m n came at) at found 0 (set found 4 at)

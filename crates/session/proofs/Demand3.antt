@@ -16,7 +16,7 @@ use Rattle.session.specs.declared.state.Profile.{Profile}
 use Rattle.session.specs.declared.state.Session.{Session}
 use Rattle.session.specs.declared.state.Started.{Started}
 use Rattle.session.specs.Technology.{Technology, uwb, cs, nan, rssi}
-use Rattle.session.specs.Rules.{Call, message, advertisement, lent, Kind, request, configuration, stop, other, kindOf, octetsOf, validProfile, Served, conclude, after, giveOut, configure, halt, serve, call, answerTo, bufferAfter}
+use Rattle.session.specs.Rules.{Call, message, advertisement, lent, Kind, request, configuration, stop, other, kindOf, octetsOf, validProfile, Served, conclude, after, serve, call, answerTo, bufferAfter}
 use Rattle.session.specs.Ledger.{Ledger, nothing, ledgerKeeps, ledgerCall, Seen, seenFrom, stateAfter}
 use Rattle.session.specs.Session.{inForceIn, markIn, sessionKeeps, sessionCall, fresh, profileOf, started}
 use Rattle.session.specs.Trace.{Event, seenOf, Ran, callsOf, Kept}

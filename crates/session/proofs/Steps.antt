@@ -1,5 +1,5 @@
 -- From what the codec's writers promise to what a call gives.
-use Prim.Native.Nat.{ℕ, zero-le, _+_, _<_}
+use Prim.Native.Nat.{ℕ, zero-le, _<_}
 use mathlib.Core.Path.{_≡_, refl, sym, ap, subst, fun-ext, _∙_}
 use mathlib.Core.List.{List}
 use mathlib.Core.Option.{none, some}
@@ -26,10 +26,10 @@ use Rattle.session.specs.declared.state.Profile.{Profile}
 use Rattle.session.specs.declared.state.Session.{Session}
 use Rattle.session.specs.declared.state.Answer.{Answer}
 use Rattle.session.specs.declared.state.Step.{Step}
-use Rattle.session.specs.Technology.{Technology, uwb, cs, nan, rssi, names, setOf}
+use Rattle.session.specs.Technology.{Technology, uwb, cs, nan, rssi, among, names, setOf}
 use Rattle.session.specs.Rules.{validProfile, Call, message, advertisement, Kind, request, configuration, stop, other, kindOf, octetsOf, replied, shows, capabilityReply, Served, conclude, giveOut, configure, setBy, endedBy, halt, serve, call, after, answerTo}
 use Rattle.session.specs.Session.{yes, rangingIn, sessionKeeps, sessionCall, Gives, profileOf}
-use Rattle.session.specs.Replies.{delivery, Delivers, settle, Answers}
+use Rattle.session.specs.Replies.{inBoth, delivery, Delivers, settle, Answers}
 use Rattle.session.proofs.SetLaws.{set-below, names-set}
 
 -- a step with the same session
@@ -84,7 +84,7 @@ module _ (p : Profile) (wanted : Technology → Bool) (v : validProfile p ≡ tr
 
 -- the blocks that the code chooses, by the bits of two sets
 pub capabilities-delivered : (p : Profile) (wanted : ℕ) {set : ℕ} {b e : List ℕ} {w : Written} → validProfile p ≡ true
-    → set ≡ cond (bit wanted 0 && bit (p .set) 0) 1 0 + (cond (bit wanted 1 && bit (p .set) 1) 2 0 + (cond (bit wanted 2 && bit (p .set) 2) 4 0 + cond (bit wanted 3 && bit (p .set) 3) 8 0))
+    → set ≡ setOf (inBoth wanted (p .set))
     → Writes (response set (only set (p .capability))) b w e → Delivers (some (capabilityReply p (names wanted))) b w e
 unfolding shows
 capabilities-delivered p wanted v k h = delivered (reply-valid p (names wanted) v) (rw k at h)
@@ -100,7 +100,7 @@ module _ (v : Served Session) {b e : List ℕ} {w : Written} (d : Delivers (v .r
 
 -- what a Capability Response gives out: the mark goes where its blocks have UWB
 module _ (s : Session) (wanted : ℕ) {blocks m : ℕ} {b e : List ℕ} {w : Written}
-    (k : blocks ≡ cond (bit wanted 0 && bit (s .profile .set) 0) 1 0 + (cond (bit wanted 1 && bit (s .profile .set) 1) 2 0 + (cond (bit wanted 2 && bit (s .profile .set) 2) 4 0 + cond (bit wanted 3 && bit (s .profile .set) 3) 8 0)))
+    (k : blocks ≡ setOf (inBoth wanted (s .profile .set)))
     (q : m ≡ cond (bit blocks 0 && eqb (w .refusal) 0) 0 (s .mark))
     (v : validProfile (s .profile) ≡ true) (h : Writes (response blocks (only blocks (s .profile .capability))) b w e) where
   pub given : Gives s (conclude b (giveOut sessionKeeps (s .profile) (names wanted) s)) b (record { session = record { profile = s .profile; uwb = s .uwb; nan = s .nan; rssi = s .rssi; mark = m }; answer = settle w 0 0 }) e
@@ -132,7 +132,7 @@ module _ (s : Session) (set : ℕ) (b : List ℕ) where
 
 -- ---- what a Stop ends, where CS is never ranging
 
-pub ended-set : (p : Profile) (set : ℕ) (s : Session) → cond (bit set 0 && yes (s .uwb .ranging)) 1 0 + (cond false 2 0 + (cond (bit set 2 && yes (s .nan .ranging)) 4 0 + cond (bit set 3 && yes (s .rssi .ranging)) 8 0)) ≡ setOf (endedBy sessionKeeps p set s)
+pub ended-set : (p : Profile) (set : ℕ) (s : Session) → setOf (among (bit set 0 && yes (s .uwb .ranging)) false (bit set 2 && yes (s .nan .ranging)) (bit set 3 && yes (s .rssi .ranging))) ≡ setOf (endedBy sessionKeeps p set s)
 unfolding endedBy rangingIn
 ended-set p set s = rw (and-false (bit set 1))
 

@@ -1,9 +1,9 @@
--- What the inner functions keep that write a reply.
+-- What the inner functions keep that choose and write a reply.
 use Prim.Native.Nat.{ℕ}
 use mathlib.Core.Path.{_≡_}
 use mathlib.Core.List.{List}
 use mathlib.Core.Option.{Option}
-use mathlib.Core.Bool.{cond}
+use mathlib.Core.Bool.{Bool, cond, _&&_}
 use lib.Dec.{eqb, leb}
 use lib.ListN.{length}
 use Rattle.codec.specs.Refusal.{Checked, accept, demand, bufferTooShort}
@@ -12,7 +12,12 @@ use Rattle.codec.specs.declared.records.Record.{Record}
 use Rattle.codec.specs.declared.records.Written.{Written}
 use Rattle.session.specs.declared.state.Session.{Session}
 use Rattle.session.specs.declared.state.Answer.{Answer}
+use Rattle.session.specs.Technology.{Technology, names}
 use Rattle.session.specs.Rules.{octetsOf, Served, answerTo, bufferAfter}
+
+-- the technologies in both of two sets
+abbrev pub inBoth : ℕ → ℕ → Technology → Bool
+inBoth a b t = names a t && names b t
 
 -- the octets of a reply into a buffer of n octets
 unfoldable pub delivery : Option Record → ℕ → Checked (List ℕ)

@@ -1,8 +1,10 @@
 // Sets of technologies, made of a truth value for each.
 ghost use mathlib.Core.Path.{_≡_};
 ghost use mathlib.Core.Bool.{cond, _&&_};
-ghost use Prim.Native.Nat.{_≤_, _+_};
+ghost use Prim.Native.Nat.{_≤_};
 ghost use Rattle.codec.specs.Technology.{bit};
+ghost use Rattle.session.specs.Technology.{among, setOf};
+ghost use Rattle.session.specs.Replies.{inBoth};
 
 // A set, or none.
 pub(crate) fn worth(on: bool, w: u16) -> u16
@@ -12,7 +14,7 @@ pub(crate) fn worth(on: bool, w: u16) -> u16
 }
 
 pub(crate) fn set_of(uwb: bool, cs: bool, nan: bool, rssi: bool) -> u16
-    ensures { λ r. ⌜ r ≡ cond uwb 1 0 + (cond cs 2 0 + (cond nan 4 0 + cond rssi 8 0)) ⌝ }
+    ensures { λ r. ⌜ r ≡ setOf (among uwb cs nan rssi) ⌝ }
 {
     worth(uwb, 1) + (worth(cs, 2) + (worth(nan, 4) + worth(rssi, 8)))
 }
@@ -26,7 +28,7 @@ pub(crate) fn both_have(a: u16, b: u16, id: u8) -> bool
 
 // The technologies in both of two sets.
 pub(crate) fn common(a: u16, b: u16) -> u16
-    ensures { λ r. ⌜ r ≡ cond (bit a 0 && bit b 0) 1 0 + (cond (bit a 1 && bit b 1) 2 0 + (cond (bit a 2 && bit b 2) 4 0 + cond (bit a 3 && bit b 3) 8 0)) ⌝ }
+    ensures { λ r. ⌜ r ≡ setOf (inBoth a b) ⌝ }
 {
     let uwb = both_have(a, b, 0);
     let cs = both_have(a, b, 1);

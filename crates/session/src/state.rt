@@ -4,7 +4,6 @@ use codec::NanConfiguration;
 use codec::Rssi;
 use codec::UwbConfiguration;
 ghost use mathlib.Core.Path.{_≡_};
-ghost use Rattle.codec.specs.Records.{configurations, blank};
 ghost use Rattle.session.specs.Session.{noUwb, noNan, noRssi, fresh};
 
 // What the tag can do, with the choice of explicit replies: 0 not said, which means on, 1 on, 2 off.

@@ -2,11 +2,6 @@ use borrow.Author.Tests.{ne-eqb}
 use borrow.Author.Needs.{needs}
 use Rattle.codec.proofs.reader.for_tag_at.Statement.{statement}
 use Rattle.codec.proofs.reader.for_tag_at.Tie as tie
-use Rattle.codec.proofs.reader.for_tag_at.Reads as reads
-use Rattle.codec.proofs.reader.for_tag_at.Lts as lts
-use Rattle.codec.proofs.octets.u16_at.Reads as u16-at-reads
-use Rattle.codec.proofs.reader.configuration_at.Reads as configuration-at-reads
-use Rattle.codec.proofs.records.zero_configuration.Reads as zero-configuration-reads
 
 shared-slice-read-id : tie.Need-shared-slice-read-id
 shared-slice-read-id c = search needs

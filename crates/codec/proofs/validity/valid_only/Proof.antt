@@ -3,11 +3,6 @@ use Rattle.codec.proofs.ValidCases.{only-valid}
 use borrow.Author.Needs.{needs}
 use Rattle.codec.proofs.validity.valid_only.Statement.{statement}
 use Rattle.codec.proofs.validity.valid_only.Tie as tie
-use Rattle.codec.proofs.validity.valid_only.Reads as reads
-use Rattle.codec.proofs.validity.valid_only.Lts as lts
-use Rattle.codec.proofs.nan.valid_capability.Reads as nan-valid-capability-reads
-use Rattle.codec.proofs.technology.has.Reads as has-reads
-use Rattle.codec.proofs.uwb.valid_capability.Reads as uwb-valid-capability-reads
 
 has-requires : tie.Need-has-requires
 has-requires c κs = search needs

@@ -1,5 +1,4 @@
 use Rattle.codec.proofs.WalkCases.{Headed, headed, accepted, awaited-block, awaits-next, sound, find-none, find-stop, find-next}
-use borrow.Author.Needs.{needs}
 use lib.ListN.{getD, length-set}
 use mathlib.Core.Path.{_≡_, sym, ap, _∙_}
 use native.Mathlib.Nat.{pos-of-ne-zero}

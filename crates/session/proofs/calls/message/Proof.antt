@@ -11,38 +11,42 @@ use Rattle.session.proofs.calls.message.Statement.{statement}
 use Rattle.session.proofs.calls.message.Tie as tie
 
 -- what the kinds of message answer
-by-kind : (c : tie.At-match-came) → Gives (c .before .before .before .before .before .before .before .args .s) (sessionCall (c .before .before .before .before .before .before .before .args .s) (message (c .before .before .before .before .before .before .before .args .octets .now) (c .before .before .before .before .before .before .before .args .out .now))) (c .before .before .before .before .before .before .before .args .out .now) (record { session = follow (c .before .before .before .before .hear .result .configuration) (c .match .answer) (c .match .session); answer = c .match .answer }) (c .match .out)
-by-kind c = ⊎-elim
-    (λ w. rw (w .8, w .9, w .10, w .7 .ensures) (with-session (follow-none (c .before .before .before .before .hear .result .configuration) (w .3 .result) _) (a-request (c .before .before .before .before .before .before .before .args .s) (c .before .before .before .before .before .before .before .args .octets .now) (c .before .before .before .before .before .before .before .args .out .now) (c .before .before .before .before .hear .ensures) (c .before .before .if1 .left) (w .0 .keys1) (given (c .before .before .before .before .before .before .before .args .s) (c .before .before .before .before .hear .result .set) (w .1 .ensures) (w .6 .ensures) (heard-valid (c .before .before .before .before .before .before .before .args .s) (c .before .before .before .before .before .before .before .args .octets .now) (c .before .before .before .before .before .before .before .args .out .now) (c .before .before .before .before .hear .ensures) (c .before .before .if1 .left)) (w .3 .ensures)))))
+by-kind : (c : tie.At-match-came) → let a = c .before .before .before .before .before .before .before .args in let h = c .before .before .before .before .hear in
+    Gives (a .s) (sessionCall (a .s) (message (a .octets .now) (a .out .now))) (a .out .now) (record { session = follow (h .result .configuration) (c .match .answer) (c .match .session); answer = c .match .answer }) (c .match .out)
+by-kind c = let a = c .before .before .before .before .before .before .before .args in let h = c .before .before .before .before .hear in let z = c .before .before .if1 .left in ⊎-elim
+    (λ w. rw (w .8, w .9, w .10, w .7 .ensures) (with-session (follow-none (h .result .configuration) (w .3 .result) _) (a-request (a .s) (a .octets .now) (a .out .now) (h .ensures) z (w .0 .keys1) (given (a .s) (h .result .set) (w .1 .ensures) (w .6 .ensures) (heard-valid (a .s) (a .octets .now) (a .out .now) (h .ensures) z) (w .3 .ensures)))))
     (⊎-elim
-    (λ w. rw (w .5, w .6, w .7) (a-configuration (c .before .before .before .before .before .before .before .args .s) (c .before .before .before .before .before .before .before .args .octets .now) (c .before .before .before .before .before .before .before .args .out .now) (c .before .before .before .before .hear .ensures) (c .before .before .if1 .left) (w .0 .keys2) (record { session = rw (w .2 .ensures .answer) (follow-configure (c .before .before .before .before .before .before .before .args .s) (c .before .before .before .before .hear .result .set) (c .before .before .before .before .before .before .before .args .out .now) (c .before .before .before .before .hear .result .configuration)); answer = w .2 .ensures .answer; buffer = w .2 .ensures .buffer })))
+    (λ w. rw (w .5, w .6, w .7) (a-configuration (a .s) (a .octets .now) (a .out .now) (h .ensures) z (w .0 .keys2) (record { session = rw (w .2 .ensures .answer) (follow-configure (a .s) (h .result .set) (a .out .now) (h .result .configuration)); answer = w .2 .ensures .answer; buffer = w .2 .ensures .buffer })))
     (⊎-elim
-    (λ w. rw (w .5, w .6, w .7) (a-stop (c .before .before .before .before .before .before .before .args .s) (c .before .before .before .before .before .before .before .args .octets .now) (c .before .before .before .before .before .before .before .args .out .now) (c .before .before .before .before .hear .ensures) (c .before .before .if1 .left) (w .0 .keys3) (record { session = rw (w .2 .ensures .answer) (follow-halt (c .before .before .before .before .before .before .before .args .s) (c .before .before .before .before .hear .result .set) (c .before .before .before .before .before .before .before .args .out .now) (c .before .before .before .before .hear .result .configuration)); answer = w .2 .ensures .answer; buffer = w .2 .ensures .buffer })))
-    (λ w. let no = w .0 .rest in rw (w .2, w .3, w .4, w .1 .ensures) (another (c .before .before .before .before .before .before .before .args .s) (c .before .before .before .before .before .before .before .args .octets .now) (c .before .before .before .before .before .before .before .args .out .now) (c .before .before .before .before .hear .ensures) (c .before .before .if1 .left) (no .0 .0 .1) (no .0 .1) (no .1)))))
+    (λ w. rw (w .5, w .6, w .7) (a-stop (a .s) (a .octets .now) (a .out .now) (h .ensures) z (w .0 .keys3) (record { session = rw (w .2 .ensures .answer) (follow-halt (a .s) (h .result .set) (a .out .now) (h .result .configuration)); answer = w .2 .ensures .answer; buffer = w .2 .ensures .buffer })))
+    (λ w. let no = w .0 .rest in rw (w .2, w .3, w .4, w .1 .ensures) (another (a .s) (a .octets .now) (a .out .now) (h .ensures) z (no .0 .0 .1) (no .0 .1) (no .1)))))
     (c .match .came)
 
 -- what the answer names is set
-set-uwb : (c : tie.Joined2) → c .if2 .session ≡ sessionKeeps .put (among (names (c .before .before .match .answer .set) uwb) false false false) (c .before .before .before .before .before .before .hear .result .configuration) (c .before .before .match .session)
+set-uwb : (c : tie.Joined2) → let k = c .before .before in c .if2 .session ≡ sessionKeeps .put (among (names (k .match .answer .set) uwb) false false false) (k .before .before .before .before .hear .result .configuration) (k .match .session)
 set-uwb c = ⊎-elim (λ w. rw (w .2, w .1 .ensures, sym (c .before .has .ensures) ∙ w .0 .taken)) (λ w. rw (w .1, sym (c .before .has .ensures) ∙ w .0 .left)) (c .if2 .came)
 
-set-nan : (c : tie.Joined3) → c .if3 .session ≡ sessionKeeps .put (among false false (names (c .before .before .before .before .match .answer .set) nan) false) (c .before .before .before .before .before .before .before .before .hear .result .configuration) (c .before .before .if2 .session)
+set-nan : (c : tie.Joined3) → let k = c .before .before .before .before in c .if3 .session ≡ sessionKeeps .put (among false false (names (k .match .answer .set) nan) false) (k .before .before .before .before .hear .result .configuration) (c .before .before .if2 .session)
 set-nan c = ⊎-elim (λ w. rw (w .2, w .1 .ensures, sym (c .before .has2 .ensures) ∙ w .0 .taken)) (λ w. rw (w .1, sym (c .before .has2 .ensures) ∙ w .0 .left)) (c .if3 .came)
 
-set-rssi : (c : tie.Joined4) → c .if4 .session ≡ sessionKeeps .put (among false false false (names (c .before .before .before .before .before .before .match .answer .set) rssi)) (c .before .before .before .before .before .before .before .before .before .before .hear .result .configuration) (c .before .before .if3 .session)
+set-rssi : (c : tie.Joined4) → let k = c .before .before .before .before .before .before in c .if4 .session ≡ sessionKeeps .put (among false false false (names (k .match .answer .set) rssi)) (k .before .before .before .before .hear .result .configuration) (c .before .before .if3 .session)
 set-rssi c = ⊎-elim (λ w. rw (w .2, w .1 .ensures, sym (c .before .has3 .ensures) ∙ w .0 .taken)) (λ w. rw (w .1, sym (c .before .has3 .ensures) ∙ w .0 .left)) (c .if4 .came)
 
 -- and stopped
-stop-uwb : (c : tie.Joined5) → c .if5 .session ≡ sessionKeeps .stop (among (names (c .before .before .before .before .before .before .before .before .match .answer .stopped) uwb) false false false) (c .before .before .if4 .session)
+stop-uwb : (c : tie.Joined5) → let k = c .before .before .before .before .before .before .before .before in c .if5 .session ≡ sessionKeeps .stop (among (names (k .match .answer .stopped) uwb) false false false) (c .before .before .if4 .session)
 stop-uwb c = ⊎-elim (λ w. rw (w .2, w .1 .ensures, sym (c .before .has4 .ensures) ∙ w .0 .taken)) (λ w. rw (w .1, sym (c .before .has4 .ensures) ∙ w .0 .left)) (c .if5 .came)
 
-stop-nan : (c : tie.Joined6) → c .if6 .session ≡ sessionKeeps .stop (among false false (names (c .before .before .before .before .before .before .before .before .before .before .match .answer .stopped) nan) false) (c .before .before .if5 .session)
+stop-nan : (c : tie.Joined6) → let k = c .before .before .before .before .before .before .before .before .before .before in c .if6 .session ≡ sessionKeeps .stop (among false false (names (k .match .answer .stopped) nan) false) (c .before .before .if5 .session)
 stop-nan c = ⊎-elim (λ w. rw (w .2, w .1 .ensures, sym (c .before .has5 .ensures) ∙ w .0 .taken)) (λ w. rw (w .1, sym (c .before .has5 .ensures) ∙ w .0 .left)) (c .if6 .came)
 
-all-followed : (c : tie.Joined6) → sessionKeeps .stop (among false false false (names (c .before .before .before .before .before .before .before .before .before .before .match .answer .stopped) rssi)) (c .if6 .session) ≡ follow (c .before .before .before .before .before .before .before .before .before .before .before .before .before .before .hear .result .configuration) (c .before .before .before .before .before .before .before .before .before .before .match .answer) (c .before .before .before .before .before .before .before .before .before .before .match .session)
-all-followed c = rw (stop-nan c, stop-uwb ((c .before .before)), set-rssi ((c .before .before .before .before)), set-nan ((c .before .before .before .before .before .before)), set-uwb ((c .before .before .before .before .before .before .before .before)))
+all-followed : (c : tie.Joined6) → let k = c .before .before .before .before .before .before .before .before .before .before in
+    sessionKeeps .stop (among false false false (names (k .match .answer .stopped) rssi)) (c .if6 .session) ≡ follow (k .before .before .before .before .hear .result .configuration) (k .match .answer) (k .match .session)
+all-followed c = rw (stop-nan c, stop-uwb (c .before .before), set-rssi (c .before .before .before .before), set-nan (c .before .before .before .before .before .before), set-uwb (c .before .before .before .before .before .before .before .before))
 
-finish : (c : tie.Joined6) (ended : Bool) → names (c .before .before .before .before .before .before .before .before .before .before .match .answer .stopped) rssi ≡ ended → Gives (c .before .before .before .before .before .before .before .before .before .before .before .before .before .before .before .before .before .args .s) (sessionCall (c .before .before .before .before .before .before .before .before .before .before .before .before .before .before .before .before .before .args .s) (message (c .before .before .before .before .before .before .before .before .before .before .before .before .before .before .before .before .before .args .octets .now) (c .before .before .before .before .before .before .before .before .before .before .before .before .before .before .before .before .before .args .out .now))) (c .before .before .before .before .before .before .before .before .before .before .before .before .before .before .before .before .before .args .out .now) (record { session = sessionKeeps .stop (among false false false ended) (c .if6 .session); answer = c .before .before .before .before .before .before .before .before .before .before .match .answer }) (c .before .before .before .before .before .before .before .before .before .before .match .out)
-finish c ended h = with-session (subst (λ (x : Bool). sessionKeeps .stop (among false false false x) (c .if6 .session) ≡ follow (c .before .before .before .before .before .before .before .before .before .before .before .before .before .before .hear .result .configuration) (c .before .before .before .before .before .before .before .before .before .before .match .answer) (c .before .before .before .before .before .before .before .before .before .before .match .session)) h (all-followed c)) (by-kind ((c .before .before .before .before .before .before .before .before .before .before)))
+finish : (c : tie.Joined6) (ended : Bool) → let k = c .before .before .before .before .before .before .before .before .before .before in let a = k .before .before .before .before .before .before .before .args in names (k .match .answer .stopped) rssi ≡ ended
+    → Gives (a .s) (sessionCall (a .s) (message (a .octets .now) (a .out .now))) (a .out .now) (record { session = sessionKeeps .stop (among false false false ended) (c .if6 .session); answer = k .match .answer }) (k .match .out)
+finish c ended h = let k = c .before .before .before .before .before .before .before .before .before .before in
+    with-session (subst (λ (x : Bool). sessionKeeps .stop (among false false false x) (c .if6 .session) ≡ follow (k .before .before .before .before .hear .result .configuration) (k .match .answer) (k .match .session)) h (all-followed c)) (by-kind k)
 
 kept : (c : tie.At-match-came) → length (c .match .out) ≡ length (c .before .before .before .before .before .before .before .args .out .now)
 kept c = ⊎-elim (λ w. rw (w .8) (w .4 .given)) (⊎-elim (λ w. rw (w .5) (w .3 .given)) (⊎-elim (λ w. rw (w .5) (w .3 .given)) (λ w. rw (w .2)))) (c .match .came)
@@ -114,16 +118,16 @@ no-rssi-requires : tie.Need-no-rssi-requires
 no-rssi-requires c κs = search needs
 
 same-length : tie.Need-same-length
-same-length c = kept ((c .before .before .before .before .before .before .before .before .before .before .before .before .before))
+same-length c = kept (c .before .before .before .before .before .before .before .before .before .before .before .before .before)
 
 returns-2 : tie.Need-returns-2
-returns-2 c = rw (c .no-rssi .ensures) (finish ((c .before .before .before)) true (sym (c .before .before .has6 .ensures) ∙ c .before .if7 .taken))
+returns-2 c = rw (c .no-rssi .ensures) (finish (c .before .before .before) true (sym (c .before .before .has6 .ensures) ∙ c .before .if7 .taken))
 
 same-length-2 : tie.Need-same-length-2
-same-length-2 c = kept ((c .before .before .before .before .before .before .before .before .before .before .before .before))
+same-length-2 c = kept (c .before .before .before .before .before .before .before .before .before .before .before .before)
 
 returns-3 : tie.Need-returns-3
-returns-3 c = finish ((c .before .before)) false (sym (c .before .has6 .ensures) ∙ c .if7 .left)
+returns-3 c = finish (c .before .before) false (sym (c .before .has6 .ensures) ∙ c .if7 .left)
 
 pub message-spec : {M : Type 1} → statement M
 message-spec =
