@@ -1,7 +1,7 @@
 -- Laws on tests and lists that several proofs cite.
 use Prim.Native.Nat.{ℕ, zero, suc, _+_, _-_, _*_, _/_, _%_, _^_, _≤_, _<_}
 use mathlib.Core.Path.{_≡_, refl, sym, ap, _∙_}
-use mathlib.Core.Bool.{Bool, true, false, not, _&&_}
+use mathlib.Core.Bool.{Bool, true, false, not, _&&_, and-assoc}
 use mathlib.Core.List.{List, [], _∷_, _++_, append-nil}
 use native.Mathlib.Omega.{arith}
 use native.Mathlib.Nat.{add-sub-cancel-left, zero-sub, sub-zero, suc-sub-suc, sub-self, add-zero, pow-suc}
@@ -69,31 +69,22 @@ drop-zeros zero n = ap (λ (j : ℕ). replicate j 0) (sym (sub-zero n))
 drop-zeros (suc k) zero = ap (λ (j : ℕ). replicate j 0) (sym (zero-sub (suc k)))
 drop-zeros (suc k) (suc n) = drop-zeros k n ∙ ap (λ (j : ℕ). replicate j 0) (sym (suc-sub-suc n k))
 
--- four octets are zero if their number is
+-- octets are zero if their number is
 sum-zero : (a b : ℕ) → eqb (a + 256 * b) 0 ≡ (eqb a 0 && eqb b 0)
 sum-zero zero zero = refl
 sum-zero zero (suc b) = ne-eqb (0 + 256 * suc b) 0 (λ e. omega arith) ∙ sym (ne-eqb (suc b) 0 (λ e. omega arith))
 sum-zero (suc a) b = ne-eqb (suc a + 256 * b) 0 (λ e. omega arith) ∙ rw (ne-eqb (suc a) 0 (λ e. omega arith))
 
-regroup : (a b c d z : Bool) → (a && (b && (c && (d && z)))) ≡ ((a && (b && (c && d))) && z)
-regroup false b c d z = refl
-regroup true false c d z = refl
-regroup true true false d z = refl
-regroup true true true false z = refl
-regroup true true true true z = refl
-
 next-zero : (s : List ℕ) (i : ℕ) → i < length s → allZero (drop i s) ≡ (eqb (getD s i 0) 0 && allZero (drop (i + 1) s))
 unfolding allZero
 next-zero s i l = rw (drop-cons s i 0 l, add-one)
 
-pub four-zero : (s : List ℕ) (i : ℕ) → i + 4 ≤ length s → allZero (drop i s) ≡ (eqb (ofLE 4 i s) 0 && allZero (drop (i + 4) s))
-four-zero s i h =
-    let j = i + 1 in
-    let k = j + 1 in
-    let l = k + 1 in
-    let end : l + 1 ≡ i + 4 = omega arith in
-    rw (next-zero s i (omega arith), next-zero s j (omega arith), next-zero s k (omega arith), next-zero s l (omega arith), end, sum-zero (getD s i 0) (ofLE 3 j s), sum-zero (getD s j 0) (ofLE 2 k s), sum-zero (getD s k 0) (getD s l 0))
-    (regroup (eqb (getD s i 0) 0) (eqb (getD s j 0) 0) (eqb (getD s k 0) 0) (eqb (getD s l 0) 0) (allZero (drop (i + 4) s)))
+pub number-zero : (w : ℕ) (s : List ℕ) (i : ℕ) → i + suc w ≤ length s → allZero (drop i s) ≡ (eqb (ofLE (suc w) i s) 0 && allZero (drop (i + suc w) s))
+number-zero zero s i h = next-zero s i (omega arith)
+number-zero (suc w) s i h =
+    let end : i + 1 + suc w ≡ i + suc (suc w) = omega arith in
+    rw (next-zero s i (omega arith), number-zero w s (i + 1) (omega arith), end, sum-zero (getD s i 0) (ofLE (suc w) (i + 1) s))
+    (sym (and-assoc (eqb (getD s i 0) 0) (eqb (ofLE (suc w) (i + 1) s) 0) (allZero (drop (i + suc (suc w)) s))))
 
 -- what `bytes::copy` leaves in n zeros, given the k octets from a place on
 pub copied : (s : List ℕ) (at k n : ℕ) → at + k ≤ length s

@@ -88,7 +88,7 @@ pub(crate) fn name_at(s: &[u8], at: usize, n: usize) -> [u8; 64]
     out
 }
 
-// Whether all octets are zero, four at a time and then the rest. It looks at every one, so that the machine code can take many
+// Whether all octets are zero, four at a time, then two and one. It looks at every one, so that the machine code can take many
 // at a time.
 pub fn all_zero(s: &[u8]) -> bool
     ensures { λ r. ⌜ r ≡ allZero (now (s .entry)) ⌝ }
@@ -99,9 +99,12 @@ pub fn all_zero(s: &[u8]) -> bool
         all = all & (u32_at(s, i) == 0);
         i += 4;
     }
-    while i < s.len() {
-        all = all & (s[i] == 0);
-        i += 1;
+    while 2 <= s.len() - i {
+        all = all & (u16_at(s, i) == 0);
+        i += 2;
+    }
+    if i < s.len() {
+        return all & (s[i] == 0);
     }
     all
 }

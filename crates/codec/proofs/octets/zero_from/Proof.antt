@@ -6,7 +6,7 @@ use lib.ListN.{length, drop, drop-of-length-le}
 use lib.Seq.{drop-cons}
 use borrow.Author.Tests.{eq-eqb, ne-eqb}
 use Rattle.codec.specs.Octets.{allZero, ofLE}
-use Rattle.codec.proofs.Laws.{four-zero}
+use Rattle.codec.proofs.Laws.{number-zero}
 use Rattle.codec.proofs.octets.zero_from.Statement.{statement}
 use Rattle.codec.proofs.octets.zero_from.Tie as tie
 
@@ -35,7 +35,7 @@ returns : tie.Need-returns Inv-loop μ-loop Inv-loop2 μ-loop2
 returns c =
     let l = c .before .before .before .loop in
     let s = c .before .before .before .before .before .args .s .now in
-    sym (l .inv .1 ∙ rw (four-zero s (l .i) (omega (arith, l .inv .0)), ne-eqb (ofLE 4 (l .i) s) 0 (λ e. c .if1 .taken (c .before .u32-at .ensures ∙ e))))
+    sym (l .inv .1 ∙ rw (number-zero 3 s (l .i) (omega (arith, l .inv .0)), ne-eqb (ofLE 4 (l .i) s) 0 (λ e. c .if1 .taken (c .before .u32-at .ensures ∙ e))))
 
 add-i : tie.Need-add-i Inv-loop μ-loop Inv-loop2 μ-loop2
 add-i c = omega (arith, c .before .before .before .loop .inv .0)
@@ -48,7 +48,7 @@ loop-again c =
     let l = c .before .before .before .loop in
     let s = c .before .before .before .before .before .args .s .now in
     let h : l .i + 4 ≤ length s = omega (arith, l .inv .0) in
-    (h, l .inv .1 ∙ rw (four-zero s (l .i) h, eq-eqb (ofLE 4 (l .i) s) 0 (sym (c .before .u32-at .ensures) ∙ c .if1 .left)))
+    (h, l .inv .1 ∙ rw (number-zero 3 s (l .i) h, eq-eqb (ofLE 4 (l .i) s) 0 (sym (c .before .u32-at .ensures) ∙ c .if1 .left)))
 
 loop2-holds : tie.Need-loop2-holds Inv-loop μ-loop Inv-loop2 μ-loop2
 loop2-holds c = c .before .loop .inv .1
