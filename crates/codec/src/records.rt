@@ -188,12 +188,12 @@ pub(crate) fn refused(number: u8) -> Reading
     }
 }
 
-pub fn refused_for_tag(number: u8) -> TagReading
-    ensures { λ r. ⌜ r ≡ forTag (refused number) ⌝ }
+pub fn refused_for_tag(fault: u8) -> TagReading
+    ensures { λ r. ⌜ r ≡ forTag (refused fault) ⌝ }
 {
     let configuration = zero_configuration();
     TagReading {
-        refusal: number,
+        refusal: fault,
         id: 0,
         set: 0,
         configuration,

@@ -11,8 +11,8 @@ use Rattle.codec.specs.Layout.{Layout, Values}
 use Rattle.codec.specs.Refusal.{Checked, refuse, accept, demand, andThen, notValid}
 use Rattle.codec.specs.Blocks.{uwbCapability, csCapability, nanCapability}
 use Rattle.codec.specs.Technology.{bit}
-use Rattle.codec.specs.Records.{capabilities, configurations, response, only, setRecord, accepted, answer, forTag, ofUwbCapability, ofCsCapability, ofNanCapability}
-use Rattle.codec.specs.Message.{reading}
+use Rattle.codec.specs.Records.{capabilities, configurations, blank, response, only, setRecord, accepted, answer, forTag, ofUwbCapability, ofCsCapability, ofNanCapability}
+use Rattle.codec.specs.Message.{idOf, setOf as setOfMessage, parse, recordOf, reading}
 use Rattle.codec.specs.Valid.{validFields, validColumn, valid}
 use Rattle.codec.specs.Writing.{writing, Writes}
 use Rattle.codec.specs.declared.records.Configuration.{Configuration}
@@ -112,9 +112,18 @@ module _ (s : Session) (wanted : ℕ) {blocks m : ℕ} {b e : List ℕ} {w : Wri
       (λ t. record { session = rw (q, x, d .answers, t, with-true (f uwb)); answer = rw (d .answers, t); buffer = rw (d .leaves, t) })
       (λ t. record { session = rw (q, d .answers, t, and-false (bit blocks 0)); answer = rw (d .answers, t); buffer = rw (d .leaves, t) })
 
--- what the answer names is set and stopped
+-- what the answer names is set and stopped, with a message's settings
+abbrev pub ends : (Technology → Bool) → Configuration → Session → Session
+ends ended c s = record {
+  profile = s .profile;
+  uwb = cond (ended uwb) (record { ranging = 0; settings = c .uwb }) (s .uwb);
+  nan = cond (ended nan) (record { ranging = 0; settings = c .nan }) (s .nan);
+  rssi = cond (ended rssi) (record { ranging = 0; settings = c .rssi }) (s .rssi);
+  mark = cond (ended uwb) 1 (s .mark);
+}
+
 abbrev pub follow : Configuration → Answer → Session → Session
-follow c a s = sessionKeeps .stop (names (a .stopped)) (sessionKeeps .put (names (a .set)) c s)
+follow c a s = ends (names (a .stopped)) c (sessionKeeps .put (names (a .set)) c s)
 
 pub follow-none : (c : Configuration) (w : Written) (s : Session) → follow c (settle w 0 0) s ≡ s
 follow-none c w s = by-bool (eqb (w .refusal) 0) (λ t. rw t) (λ t. rw t)
@@ -125,10 +134,10 @@ module _ (s : Session) (set : ℕ) (b : List ℕ) where
   follow-configure c = let f = setBy sessionKeeps (s .profile) set c s in
       by-bool (leb (length (octetsOf (configure sessionKeeps (s .profile) set c s .reply))) (length b)) (λ t. rw (t, names-set f uwb, names-set f nan, names-set f rssi)) (λ t. rw t)
 
-  pub follow-halt : (c : Configuration) → let o = conclude b (halt sessionKeeps (s .profile) set s) in follow c (answerTo o) s ≡ after s o
+  pub follow-halt : {c : Configuration} → c ≡ blank configurations → let o = conclude b (halt sessionKeeps (s .profile) set s) in follow c (answerTo o) s ≡ after s o
   unfolding conclude
-  follow-halt c = let f = endedBy sessionKeeps (s .profile) set s in
-      by-bool (leb (length (octetsOf (halt sessionKeeps (s .profile) set s .reply))) (length b)) (λ t. rw (t, names-set f uwb, names-set f nan, names-set f rssi)) (λ t. rw t)
+  follow-halt {c} z = let f = endedBy sessionKeeps (s .profile) set s in
+      by-bool (leb (length (octetsOf (halt sessionKeeps (s .profile) set s .reply))) (length b)) (λ t. rw (t, z, names-set f uwb, names-set f nan, names-set f rssi)) (λ t. rw t)
 
 -- ---- what a Stop ends, where CS is never ranging
 
@@ -146,6 +155,16 @@ by-kind s r {b} {e} {v} k h g = subst (λ (k : Kind). Gives s (serve sessionKeep
 pub not-valid : (s : Session) (c : Call) (b : List ℕ) → validProfile (s .profile) ≡ false → Gives s (sessionCall s c) b (refusal s 12) b
 unfolding sessionCall
 not-valid s c b h = rw h (record { session = refl; answer = refl; buffer = refl })
+
+-- no settings but in a Configuration
+unset : (m : List ℕ) (v : Bool) → let a = forTag (answer (demand v notValid (reading m))) in (a .id ≡ 2 → ⊥) → a .configuration ≡ blank configurations
+unfolding reading
+unset m false k = refl
+unset m true k = go (parse m) k
+  where
+    go : (o : Checked (List (List ℕ))) → let a = forTag (answer (andThen o λ blocks. accept (recordOf (idOf m) (setOfMessage m) blocks))) in (a .id ≡ 2 → ⊥) → a .configuration ≡ blank configurations
+    go (refuse x) k = refl
+    go (accept blocks) k = rw (ne-eqb (idOf m) 2 k)
 
 same-id : {a : TagReading} (r : Record) (n : ℕ) → a ≡ forTag (accepted r) → a .id ≡ n → r .id ≡ n
 same-id r n q k = sym (ap (λ (y : TagReading). y .id) q) ∙ k
@@ -165,6 +184,9 @@ module _ (s : Session) (m b : List ℕ) {a : TagReading} (h : a ≡ forTag (answ
 
   pub heard-valid : a .refusal ≡ 0 → validProfile (s .profile) ≡ true
   heard-valid z = by-bool (validProfile (s .profile)) (λ t. t) (λ f. absurd (no-zero notValid (sym (ap (λ (y : TagReading). y .refusal) (h ∙ ap (λ (x : Bool). forTag (answer (demand x notValid (reading m)))) f)) ∙ z)))
+
+  pub heard-unset : (a .id ≡ 2 → ⊥) → a .configuration ≡ blank configurations
+  heard-unset = subst (λ (y : TagReading). (y .id ≡ 2 → ⊥) → y .configuration ≡ blank configurations) (sym h) (unset m (validProfile (s .profile)))
 
   module _ (z : a .refusal ≡ 0) {w : Step} {e : List ℕ} where
     was-heard : ((r : Record) → a ≡ forTag (accepted r) → Gives s (serve sessionKeeps (s .profile) (kindOf (r .id)) r s b) b w e) → Gives s (sessionCall s (message m b)) b w e

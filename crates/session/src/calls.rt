@@ -2,7 +2,6 @@
 use crate::configuration::configure;
 use crate::replies::answered;
 use crate::replies::refusal;
-use crate::replies::refused;
 use crate::replies::valid_profile;
 use crate::sets::common;
 use crate::state::Profile;
@@ -10,12 +9,9 @@ use crate::state::Session;
 use crate::state::Started;
 use crate::state::Step;
 use crate::state::fresh;
-use crate::state::no_nan;
-use crate::state::no_rssi;
-use crate::state::no_uwb;
-use crate::state::ranging_nan;
-use crate::state::ranging_rssi;
-use crate::state::ranging_uwb;
+use crate::state::nan_state;
+use crate::state::rssi_state;
+use crate::state::uwb_state;
 use crate::stop::halt;
 use codec::Record;
 use codec::TagReading;
@@ -80,47 +76,48 @@ fn hear(profile: Profile, octets: &[u8]) -> TagReading
     codec::read_for_tag(octets)
 }
 
-// A message to the tag. What the answer names is set or stopped where it lies, so that nothing else is copied.
+// A message to the tag. What the answer names is set or stopped where it lies, so that nothing else is copied; the settings of
+// a Stop are zero.
 pub fn message(s: Session, octets: &[u8], out: &mut [u8]) -> Step
     ensures { λ r. ⌜ Gives s (sessionCall s (messageCall (now (octets .entry)) (now (out .entry)))) (now (out .entry)) r (now (out .exit)) ⌝ }
 {
     let mut session = s;
-    let heard = hear(session.profile, octets);
-    if heard.refusal != 0 {
-        return refused(session, heard.refusal);
-    }
-    let set = heard.set;
-    let c = heard.configuration;
+    let profile = session.profile;
+    let heard = hear(profile, octets);
+    let settings = heard.configuration;
     let id = heard.id;
-    let answer = match id {
-        0 => {
-            let blocks = common(set, session.profile.set);
-            let w = codec::write_response(blocks, session.profile.capability, out);
-            session.mark = mark_given(blocks, w, session.mark);
-            answered(w, 0, 0)
-        }
-        2 => configure(session, set, c, out),
-        6 => halt(session, set, out),
-        _ => refusal(NOT_FOR_TAG),
-    };
+    let mut answer = refusal(heard.refusal);
+    if heard.refusal == 0 {
+        answer = match id {
+            0 => {
+                let blocks = common(heard.set, session.profile.set);
+                let w = codec::write_response(blocks, session.profile.capability, out);
+                session.mark = mark_given(blocks, w, session.mark);
+                answered(w, 0, 0)
+            }
+            2 => configure(session, heard.set, settings, out),
+            6 => halt(session, heard.set, out),
+            _ => refusal(NOT_FOR_TAG),
+        };
+    }
     if has(answer.set, 0) {
-        session.uwb = ranging_uwb(c.uwb);
+        session.uwb = uwb_state(1, settings.uwb);
     }
     if has(answer.set, 2) {
-        session.nan = ranging_nan(c.nan);
+        session.nan = nan_state(1, settings.nan);
     }
     if has(answer.set, 3) {
-        session.rssi = ranging_rssi(c.rssi);
+        session.rssi = rssi_state(1, settings.rssi);
     }
     if has(answer.stopped, 0) {
-        session.uwb = no_uwb();
+        session.uwb = uwb_state(0, settings.uwb);
         session.mark = 1;
     }
     if has(answer.stopped, 2) {
-        session.nan = no_nan();
+        session.nan = nan_state(0, settings.nan);
     }
     if has(answer.stopped, 3) {
-        session.rssi = no_rssi();
+        session.rssi = rssi_state(0, settings.rssi);
     }
     Step { session, answer }
 }

@@ -2,8 +2,6 @@
 use crate::sets::worth;
 use crate::state::Answer;
 use crate::state::Profile;
-use crate::state::Session;
-use crate::state::Step;
 use codec::SetMessage;
 use codec::Written;
 ghost use mathlib.Core.Path.{_≡_};
@@ -27,14 +25,6 @@ pub(crate) fn refusal(number: u8) -> Answer
         set: 0,
         stopped: 0,
     }
-}
-
-// A refusal leaves the session.
-pub(crate) fn refused(s: Session, number: u8) -> Step
-    ensures { λ r. ⌜ r ≡ record { session = s; answer = record { refusal = number; length = 0; set = 0; stopped = 0 } } ⌝ }
-{
-    let answer = refusal(number);
-    Step { session: s, answer }
 }
 
 // The answer once a reply is written, or refused, in which case nothing is set or stopped.

@@ -66,31 +66,22 @@ pub struct Started {
     pub refusal: u8,
 }
 
-pub(crate) fn ranging_uwb(settings: UwbConfiguration) -> UwbState
-    ensures { λ r. ⌜ r ≡ record { ranging = 1; settings = settings } ⌝ }
+pub(crate) fn uwb_state(ranging: u8, settings: UwbConfiguration) -> UwbState
+    ensures { λ r. ⌜ r ≡ record { ranging = ranging; settings = settings } ⌝ }
 {
-    UwbState {
-        ranging: 1,
-        settings,
-    }
+    UwbState { ranging, settings }
 }
 
-pub(crate) fn ranging_nan(settings: NanConfiguration) -> NanState
-    ensures { λ r. ⌜ r ≡ record { ranging = 1; settings = settings } ⌝ }
+pub(crate) fn nan_state(ranging: u8, settings: NanConfiguration) -> NanState
+    ensures { λ r. ⌜ r ≡ record { ranging = ranging; settings = settings } ⌝ }
 {
-    NanState {
-        ranging: 1,
-        settings,
-    }
+    NanState { ranging, settings }
 }
 
-pub(crate) fn ranging_rssi(settings: Rssi) -> RssiState
-    ensures { λ r. ⌜ r ≡ record { ranging = 1; settings = settings } ⌝ }
+pub(crate) fn rssi_state(ranging: u8, settings: Rssi) -> RssiState
+    ensures { λ r. ⌜ r ≡ record { ranging = ranging; settings = settings } ⌝ }
 {
-    RssiState {
-        ranging: 1,
-        settings,
-    }
+    RssiState { ranging, settings }
 }
 
 pub(crate) fn no_uwb() -> UwbState
