@@ -32,6 +32,12 @@ fn joined32(low: u16, high: u16) -> u32
     low as u32 + 65536 * high as u32
 }
 
+fn joined64(low: u32, high: u32) -> u64
+    ensures { λ r. ⌜ r ≡ low + 4294967296 * high ⌝ }
+{
+    low as u64 + 4294967296 * high as u64
+}
+
 // The number of two octets.
 pub(crate) fn u16_at(s: &[u8], at: usize) -> u16
     requires { ⌜ at + 2 ≤ length (now s) ⌝ }
@@ -46,6 +52,14 @@ pub(crate) fn u32_at(s: &[u8], at: usize) -> u32
     ensures { λ r. ⌜ r ≡ ofLE 4 at (now (s .entry)) ⌝ }
 {
     joined32(u16_at(s, at), u16_at(s, at + 2))
+}
+
+// The number of eight octets.
+fn u64_at(s: &[u8], at: usize) -> u64
+    requires { ⌜ at + 8 ≤ length (now s) ⌝ }
+    ensures { λ r. ⌜ r ≡ ofLE 8 at (now (s .entry)) ⌝ }
+{
+    joined64(u32_at(s, at), u32_at(s, at + 4))
 }
 
 // Two octets: a UWB address, a country.
@@ -109,17 +123,17 @@ pub fn all_zero(s: &[u8]) -> bool
     all
 }
 
-// Whether all octets from a place on are zero.
+// Whether all octets from a place on are zero, eight at a time and then one.
 pub(crate) fn zero_from(s: &[u8], from: usize) -> bool
     requires { ⌜ from ≤ length (now s) ⌝ }
     ensures { λ r. ⌜ r ≡ allZero (drop from (now (s .entry))) ⌝ }
 {
     let mut i = from;
-    while 4 <= s.len() - i {
-        if u32_at(s, i) != 0 {
+    while 8 <= s.len() - i {
+        if u64_at(s, i) != 0 {
             return false;
         }
-        i += 4;
+        i += 8;
     }
     while i < s.len() {
         if s[i] != 0 {

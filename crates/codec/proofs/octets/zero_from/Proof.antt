@@ -28,14 +28,14 @@ loop-holds c = (c .before .pre, refl)
 sub-loop : tie.Need-sub-loop Inv-loop μ-loop Inv-loop2 μ-loop2
 sub-loop c = c .loop .inv .0
 
-u32-at-requires : tie.Need-u32-at-requires Inv-loop μ-loop Inv-loop2 μ-loop2
-u32-at-requires c κs = omega (arith, c .before .loop .inv .0)
+u64-at-requires : tie.Need-u64-at-requires Inv-loop μ-loop Inv-loop2 μ-loop2
+u64-at-requires c κs = omega (arith, c .before .loop .inv .0)
 
 returns : tie.Need-returns Inv-loop μ-loop Inv-loop2 μ-loop2
 returns c =
     let l = c .before .before .before .loop in
     let s = c .before .before .before .before .before .args .s .now in
-    sym (l .inv .1 ∙ rw (number-zero 3 s (l .i) (omega (arith, l .inv .0)), ne-eqb (ofLE 4 (l .i) s) 0 (λ e. c .if1 .taken (c .before .u32-at .ensures ∙ e))))
+    sym (l .inv .1 ∙ rw (number-zero 7 s (l .i) (omega (arith, l .inv .0)), ne-eqb (ofLE 8 (l .i) s) 0 (λ e. c .if1 .taken (c .before .u64-at .ensures ∙ e))))
 
 add-i : tie.Need-add-i Inv-loop μ-loop Inv-loop2 μ-loop2
 add-i c = omega (arith, c .before .before .before .loop .inv .0)
@@ -47,8 +47,8 @@ loop-again : tie.Need-loop-again Inv-loop μ-loop Inv-loop2 μ-loop2
 loop-again c =
     let l = c .before .before .before .loop in
     let s = c .before .before .before .before .before .args .s .now in
-    let h : l .i + 4 ≤ length s = omega (arith, l .inv .0) in
-    (h, l .inv .1 ∙ rw (number-zero 3 s (l .i) h, eq-eqb (ofLE 4 (l .i) s) 0 (sym (c .before .u32-at .ensures) ∙ c .if1 .left)))
+    let h : l .i + 8 ≤ length s = omega (arith, l .inv .0) in
+    (h, l .inv .1 ∙ rw (number-zero 7 s (l .i) h, eq-eqb (ofLE 8 (l .i) s) 0 (sym (c .before .u64-at .ensures) ∙ c .if1 .left)))
 
 loop2-holds : tie.Need-loop2-holds Inv-loop μ-loop Inv-loop2 μ-loop2
 loop2-holds c = c .before .loop .inv .1
@@ -93,7 +93,7 @@ zero-from-spec =
     μ-loop2
     loop-holds
     sub-loop
-    u32-at-requires
+    u64-at-requires
     returns
     add-i
     loop-less
