@@ -76,8 +76,8 @@ fn hear(profile: Profile, octets: &[u8]) -> TagReading
     codec::read_for_tag(octets)
 }
 
-// A message to the tag. What the answer names is set or stopped where it lies, so that nothing else is copied; the settings of
-// a Stop are zero.
+// A message to the tag. What the answer names is set or stopped where it lies; the settings of a Stop are zero. One return, and a
+// copy of the profile for its test, let the compiler copy the session only in and out.
 pub fn message(s: Session, octets: &[u8], out: &mut [u8]) -> Step
     ensures { λ r. ⌜ Gives s (sessionCall s (messageCall (now (octets .entry)) (now (out .entry)))) (now (out .entry)) r (now (out .exit)) ⌝ }
 {
