@@ -69,7 +69,7 @@ drop-zeros zero n = ap (λ (j : ℕ). replicate j 0) (sym (sub-zero n))
 drop-zeros (suc k) zero = ap (λ (j : ℕ). replicate j 0) (sym (zero-sub (suc k)))
 drop-zeros (suc k) (suc n) = drop-zeros k n ∙ ap (λ (j : ℕ). replicate j 0) (sym (suc-sub-suc n k))
 
--- octets are zero if their number is
+-- octets are zero exactly if their number is
 sum-zero : (a b : ℕ) → eqb (a + 256 * b) 0 ≡ (eqb a 0 && eqb b 0)
 sum-zero zero zero = refl
 sum-zero zero (suc b) = ne-eqb (0 + 256 * suc b) 0 (λ e. omega arith) ∙ sym (ne-eqb (suc b) 0 (λ e. omega arith))

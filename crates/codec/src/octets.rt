@@ -123,7 +123,7 @@ pub fn all_zero(s: &[u8]) -> bool
     all
 }
 
-// Whether all octets from a place on are zero, eight at a time and then one.
+// Whether all octets from a place on are zero, eight at a time and then one by one.
 pub(crate) fn zero_from(s: &[u8], from: usize) -> bool
     requires { ⌜ from ≤ length (now s) ⌝ }
     ensures { λ r. ⌜ r ≡ allZero (drop from (now (s .entry))) ⌝ }

@@ -119,7 +119,7 @@ pub fn zero_capability() -> Capability
     }
 }
 
-pub fn zero_uwb() -> UwbConfiguration
+fn zero_uwb() -> UwbConfiguration
     ensures { λ r. ⌜ r ≡ blank configurations .uwb ⌝ }
 {
     UwbConfiguration {
@@ -138,7 +138,7 @@ pub fn zero_uwb() -> UwbConfiguration
     }
 }
 
-pub fn zero_nan() -> NanConfiguration
+fn zero_nan() -> NanConfiguration
     ensures { λ r. ⌜ r ≡ blank configurations .nan ⌝ }
 {
     NanConfiguration {
@@ -149,13 +149,13 @@ pub fn zero_nan() -> NanConfiguration
     }
 }
 
-pub fn zero_rssi() -> Rssi
+fn zero_rssi() -> Rssi
     ensures { λ r. ⌜ r ≡ blank configurations .rssi ⌝ }
 {
     Rssi { address: [0; 6] }
 }
 
-pub(crate) fn zero_configuration() -> Configuration
+pub fn zero_configuration() -> Configuration
     ensures { λ r. ⌜ r ≡ blank configurations ⌝ }
 {
     let uwb = zero_uwb();
@@ -188,6 +188,7 @@ pub(crate) fn refused(number: u8) -> Reading
     }
 }
 
+// A refusal, as `read_for_tag` gives it.
 pub fn refused_for_tag(fault: u8) -> TagReading
     ensures { λ r. ⌜ r ≡ forTag (refused fault) ⌝ }
 {

@@ -112,7 +112,7 @@ module _ (s : Session) (wanted : ℕ) {blocks m : ℕ} {b e : List ℕ} {w : Wri
       (λ t. record { session = rw (q, x, d .answers, t, with-true (f uwb)); answer = rw (d .answers, t); buffer = rw (d .leaves, t) })
       (λ t. record { session = rw (q, d .answers, t, and-false (bit blocks 0)); answer = rw (d .answers, t); buffer = rw (d .leaves, t) })
 
--- what the answer names is set and stopped, with a message's settings
+-- what stops, with a message's settings
 abbrev pub ends : (Technology → Bool) → Configuration → Session → Session
 ends ended c s = record {
   profile = s .profile;
@@ -122,6 +122,7 @@ ends ended c s = record {
   mark = cond (ended uwb) 1 (s .mark);
 }
 
+-- what the answer names is set and stopped
 abbrev pub follow : Configuration → Answer → Session → Session
 follow c a s = ends (names (a .stopped)) c (sessionKeeps .put (names (a .set)) c s)
 

@@ -1,4 +1,4 @@
-// The calls: start, message, advertise. They lend the capability to the writer from the session itself, so that it is not copied.
+// The calls: start, message, advertise. They lend the capability to the writer from the session itself.
 use crate::configuration::configure;
 use crate::replies::answered;
 use crate::replies::refusal;

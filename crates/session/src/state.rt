@@ -4,7 +4,7 @@ use codec::NanConfiguration;
 use codec::Rssi;
 use codec::UwbConfiguration;
 ghost use mathlib.Core.Path.{_≡_};
-ghost use Rattle.session.specs.Session.{noUwb, noNan, noRssi, fresh};
+ghost use Rattle.session.specs.Session.{fresh};
 
 // What the tag can do, with the choice of explicit replies: 0 not said, which means on, 1 on, 2 off.
 #[repr(C)]
@@ -84,42 +84,13 @@ pub(crate) fn rssi_state(ranging: u8, settings: Rssi) -> RssiState
     RssiState { ranging, settings }
 }
 
-pub(crate) fn no_uwb() -> UwbState
-    ensures { λ r. ⌜ r ≡ noUwb ⌝ }
-{
-    let settings = codec::zero_uwb();
-    UwbState {
-        ranging: 0,
-        settings,
-    }
-}
-
-pub(crate) fn no_nan() -> NanState
-    ensures { λ r. ⌜ r ≡ noNan ⌝ }
-{
-    let settings = codec::zero_nan();
-    NanState {
-        ranging: 0,
-        settings,
-    }
-}
-
-pub(crate) fn no_rssi() -> RssiState
-    ensures { λ r. ⌜ r ≡ noRssi ⌝ }
-{
-    let settings = codec::zero_rssi();
-    RssiState {
-        ranging: 0,
-        settings,
-    }
-}
-
 pub(crate) fn fresh(profile: Profile) -> Session
     ensures { λ r. ⌜ r ≡ fresh profile ⌝ }
 {
-    let uwb = no_uwb();
-    let nan = no_nan();
-    let rssi = no_rssi();
+    let none = codec::zero_configuration();
+    let uwb = uwb_state(0, none.uwb);
+    let nan = nan_state(0, none.nan);
+    let rssi = rssi_state(0, none.rssi);
     Session {
         profile,
         uwb,
