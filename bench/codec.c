@@ -2,7 +2,7 @@
 
    codec call proved|second read|write NAME     calls it once, for callgrind to count its instructions; prints how many calls
    codec stack proved|second read|write NAME    prints how many octets of stack the call used, beside its arguments and result
-   codec time proved|second read|write NAME     prints how many picoseconds a call takes, the best of five runs
+   codec time proved|second read|write NAME     prints how many picoseconds a call takes, the best of fifty runs
 
    measure.h has the names. */
 #include "measure.h"
@@ -65,7 +65,7 @@ int main(int argc, char **argv)
         printf("%zu\n", full - used(all));
     } else if (!strcmp(argv[1], "time")) {
         all();
-        printf("%ld\n", many ? clocked(nothing, all, 1000) / calls : clocked(nothing, all, 200000));
+        printf("%ld\n", many ? clocked(nothing, all, 100) / calls : clocked(nothing, all, 20000));
     } else {
         all();
         printf("%d\n", many ? calls : 1);
