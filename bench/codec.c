@@ -2,7 +2,7 @@
 
    codec call proved|second read|write NAME     calls it once, for callgrind to count its instructions; prints how many calls
    codec stack proved|second read|write NAME    prints how many octets of stack the call used, beside its arguments and result
-   codec time proved|second read|write NAME     prints how many picoseconds a call takes, the best of fifty runs
+   codec time proved|second read|write NAME     prints how many picoseconds a call takes, the best of ten runs
 
    measure.h has the names. */
 #include "measure.h"

@@ -120,11 +120,11 @@ static size_t used(void (*f)(void))
     return sizeof stack - untouched;
 }
 
-/* Picoseconds for a call, the best of fifty runs of so many; `before` is called before each and counted as well. */
+/* Picoseconds for a call, the best of ten runs of so many; `before` is called before each and counted as well. */
 static long clocked(void (*before)(void), void (*call)(void), long calls)
 {
     long best = 0;
-    for (int run = 0; run < 50; run++) {
+    for (int run = 0; run < 10; run++) {
         struct timespec a, b;
         clock_gettime(CLOCK_MONOTONIC, &a);
         for (long i = 0; i < calls; i++) before(), call();

@@ -2,7 +2,7 @@
 
    session call proved|second CALL     makes the call once, for callgrind to count its instructions
    session stack proved|second CALL    prints how many octets of stack the call used, beside its arguments and result
-   session time proved|second CALL     prints how many picoseconds the call takes, the best of fifty runs
+   session time proved|second CALL     prints how many picoseconds the call takes, the best of ten runs
 
    CALL is advertisement, or the message of a name of measure.h: before a Stop three technologies are ranging, and a Capability
    Response is walked before it is refused. */
