@@ -2,7 +2,7 @@
 use Prim.Native.Nat.{ℕ, zero, suc, _+_, _≤_, _<_}
 use native.Mathlib.Omega.{arith}
 use native.Mathlib.Nat.{eq-or-lt-of-le}
-use mathlib.Core.Logic.{⊎-elim}
+use mathlib.Core.Logic.{⊎-elim, _↔_}
 use mathlib.Core.Path.{_≡_, refl, sym, ap, _∙_, fun-ext}
 use mathlib.Core.Bool.{Bool, true, false, cond}
 use mathlib.Core.List.{List, [], _∷_, _++_, append-assoc, append-nil, flatten}
@@ -12,12 +12,13 @@ use borrow.Author.Tests.{eq-eqb, ne-eqb, leb-true, leb-false}
 use Rattle.codec.specs.Octets.{Octets}
 use Rattle.codec.specs.Layout.{Layout, number, octets, counted, Values, zeroes, allowed, Typed, cleared, write, value, need}
 use Rattle.codec.specs.Technology.{bit}
-use Rattle.codec.specs.Records.{Column, capabilities, configurations, blank}
+use Rattle.codec.specs.Records.{Column, capabilities, configurations, blank, response}
 use Rattle.codec.specs.Blocks.{capabilityBlock, configurationBlock}
 use Rattle.codec.specs.Message.{fieldsIn, columnOf}
-use Rattle.codec.specs.WellFormed.{Whole, Each, Once}
+use Rattle.codec.specs.WellFormed.{Whole, Each, Once, Has, this, later}
 use Rattle.codec.specs.Valid.{validFields, validColumn}
-use Rattle.codec.specs.NormalForm.{block, rising, columnBlocks, Rising}
+use Rattle.codec.specs.NormalForm.{block, rising, columnBlocks, blocksOf, Rising}
+use Rattle.codec.specs.declared.records.Capability.{Capability}
 use Rattle.codec.proofs.Laws.{long-LE}
 use Rattle.codec.proofs.Outcomes.{by-bool, and-true}
 use Rattle.codec.proofs.Layouts.{fits, block as layoutBlock, block-fits}
@@ -247,3 +248,25 @@ module _ {A : Type 0} (C : Column A) (F : Lawful C) (set : ℕ) (a : A) (T : (id
 -- a column without technologies is zero
 pub column-blank : {A : Type 0} (C : Column A) → Lawful C → (a : A) → ((id : ℕ) → Typed (C .layouts id) (C .fields a id)) → validColumn C 0 a ≡ true → a ≡ blank C
 column-blank C F a T ok = sym (column-back C F 0 a T ok)
+
+-- ---- the blocks of a Capability Response are those of the IDs in its set
+
+module _ {A : Type 0} (C : Column A) (set : ℕ) (a : A) (id : ℕ) where
+  rising-named : (n lo : ℕ) → Has id (rising C set a n lo) → bit set id ≡ true
+  rising-named (suc n) lo h = go (bit set lo) refl h (rising-named n (suc lo))
+    where
+      go : (b : Bool) → bit set lo ≡ b → Has id (cond b (block (C .layouts lo) lo (C .fields a lo) ∷ rising C set a n (suc lo)) (rising C set a n (suc lo))) → (Has id (rising C set a n (suc lo)) → bit set id ≡ true) → bit set id ≡ true
+      go true e (this q) k = ap (λ (j : ℕ). bit set j) (sym q) ∙ e
+      go true e (later h) k = k h
+      go false e h k = k h
+
+  named-rising : (n lo : ℕ) → lo ≤ id → id < lo + n → bit set id ≡ true → Has id (rising C set a n lo)
+  named-rising zero lo l u m = absurd (omega arith)
+  named-rising (suc n) lo l u m = ⊎-elim (λ e. let b : bit set lo ≡ true = ap (λ (j : ℕ). bit set j) e ∙ m in rw b (this e)) (λ b. go (bit set lo) (named-rising n (suc lo) (omega arith) (omega arith) m)) (eq-or-lt-of-le l)
+    where
+      go : (b : Bool) → Has id (rising C set a n (suc lo)) → Has id (cond b (block (C .layouts lo) lo (C .fields a lo) ∷ rising C set a n (suc lo)) (rising C set a n (suc lo)))
+      go true h = later h
+      go false h = h
+
+pub response-has : (set : ℕ) (c : Capability) (id : ℕ) → id < 4 → Has id (blocksOf (response set c)) ↔ (bit set id ≡ true)
+response-has set c id l = rw (append-nil (columnBlocks capabilities set c)) (rising-named capabilities set c id 4 0, named-rising capabilities set c id 4 0 (omega arith) (omega arith))

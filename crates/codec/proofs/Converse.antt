@@ -15,7 +15,7 @@ use Rattle.codec.specs.Layout.{Layout, Values, zeroes, Typed, write, val
 use Rattle.codec.specs.Technology.{bit, known}
 use Rattle.codec.specs.Records.{Column, capabilities, configurations, blank}
 use Rattle.codec.specs.Message.{fieldsIn, columnOf, recordOf}
-use Rattle.codec.specs.WellFormed.{Whole, Each, Once, sets, WellFormed}
+use Rattle.codec.specs.WellFormed.{Whole, Each, Once, sets, WellFormed, Has, this, later}
 use Rattle.codec.specs.Valid.{TypedRecord, validFields, setIn, validColumn, valid}
 use Rattle.codec.specs.NormalForm.{block, rising, columnBlocks, blocksOf, normal, Rising, NormalForm}
 use Rattle.codec.specs.declared.records.Record.{Record}
@@ -26,7 +26,7 @@ use Rattle.codec.proofs.Bits.{bit-under}
 use Rattle.codec.proofs.Fields.{octets-left, octets-right, forth, typed-zeroes, zeroed-zeroes}
 use Rattle.codec.proofs.Exact.{small}
 use Rattle.codec.proofs.MessageCases.{assigned-under}
-use Rattle.codec.proofs.Counting.{Has, this, later, ones-none, count-under, all-there}
+use Rattle.codec.proofs.Counting.{ones-none, count-under, all-there}
 use Rattle.codec.proofs.Columns.{Lawful, capabilities-lawful, configurations-lawful}
 
 low-bit : (s j : ℕ) → j < 4 → bit (s % 16) j ≡ bit s j

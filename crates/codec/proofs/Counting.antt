@@ -13,7 +13,7 @@ use lib.Pow.{shr-shr}
 use lib.Count.{ones, ones-step}
 use borrow.Author.Tests.{eqb-true, eq-eqb, ne-eqb}
 use Rattle.codec.specs.Technology.{bit}
-use Rattle.codec.specs.WellFormed.{Each, Once}
+use Rattle.codec.specs.WellFormed.{Each, Once, Has, this, later}
 use Rattle.codec.proofs.Outcomes.{by-bool}
 
 abbrev pub one : Bool → ℕ
@@ -85,11 +85,6 @@ count-none (suc k) lo may e j a b =
     here false e = refl
 
 -- ---- the block of an ID
-
--- a block of this ID is among the blocks
-pub data Has (id : ℕ) : List (List ℕ) → Type 0 where
-  this : {b : List ℕ} {blocks : List (List ℕ)} → getD b 0 0 ≡ id → Has id (b ∷ blocks)
-  later : {b : List ℕ} {blocks : List (List ℕ)} → Has id blocks → Has id (b ∷ blocks)
 
 each-without : (old : ℕ) (may : ℕ → Bool) (blocks : List (List ℕ)) → Each (λ c. getD c 0 0 ≡ old → ⊥) blocks → Each (λ b. may (getD b 0 0) ≡ true) blocks
     → Each (λ b. without old may (getD b 0 0) ≡ true) blocks

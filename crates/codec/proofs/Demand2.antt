@@ -1,66 +1,92 @@
--- Demand 2, over the definitions that the contracts of `read` and `write` cite.
+-- Demand 2, of every call of the reader and the writer that keeps its contract.
 use Prim.Native.Nat.{ℕ, _≤_}
 use mathlib.Core.Logic.{_↔_}
-use mathlib.Core.Path.{_≡_, sym, ap, _∙_, subst}
+use mathlib.Core.Path.{_≡_, refl, sym, ap, _∙_, subst}
 use mathlib.Core.Bool.{true}
 use mathlib.Core.List.{List}
+use lib.Dec.{leb}
 use lib.ListN.{length}
+use lib.Seq.{take-at}
+use borrow.Author.Tests.{le-leb}
 use Rattle.codec.specs.Octets.{Octets}
-use Rattle.codec.specs.Message.{messageLimit, reading}
+use Rattle.codec.specs.Refusal.{Checked, refuse, accept, bufferTooShort, notValid}
+use Rattle.codec.specs.Message.{messageLimit, reading, Reads}
 use Rattle.codec.specs.Records.{accepted, answer}
+use Rattle.codec.specs.WellFormed.{WellFormed}
 use Rattle.codec.specs.Valid.{TypedRecord, valid}
 use Rattle.codec.specs.NormalForm.{normal, NormalForm}
+use Rattle.codec.specs.Writing.{fitting, writing, written, buffer, Writes, WritesTyped, octetsWritten}
+use Rattle.codec.specs.Demand2.{WroteNormal, Demand2}
 use Rattle.codec.specs.declared.records.Record.{Record}
 use Rattle.codec.specs.declared.records.Reading.{Reading}
+use Rattle.codec.specs.declared.records.Written.{Written}
+use Rattle.codec.proofs.Outcomes.{demanded, no-zero}
 use Rattle.codec.proofs.Exact.{exact}
 use Rattle.codec.proofs.ReadBack.{normal-octets, normal-formed, normal-normal, normal-fits}
 use Rattle.codec.proofs.Converse.{record-valid, normal-is}
 
--- ---- for every valid record
+-- ---- what a call read
 
-module _ (r : Record) (typed : TypedRecord r) (ok : valid r ≡ true) where
-  -- reading its normal form accepts and gives that record
-  pub reads-back : answer (reading (normal r)) ≡ accepted r
-  reads-back = exact (normal r) (normal-octets r typed ok) r .1 (normal-formed r typed ok)
+-- an answer without a refusal accepts
+took : (o : Checked Record) → answer o .refusal ≡ 0 → answer o ≡ accepted (answer o .value)
+took (refuse x) z = absurd (no-zero x z)
+took (accept r) z = refl
 
-  -- its normal form is in normal form
-  pub is-normal : NormalForm (normal r)
-  is-normal = normal-normal r typed ok
+-- so does a call's
+accepts : {m : List ℕ} {a : Reading} → Reads m a → a .refusal ≡ 0 → answer (reading m) ≡ accepted (a .value)
+accepts {m} {a} h z = subst (λ (b : Reading). b .refusal ≡ 0 → answer (reading m) ≡ accepted (b .value)) (sym (h .answers)) (took (reading m)) z
 
-  -- and fits the message limit
-  pub fits-limit : length (normal r) ≤ messageLimit
-  fits-limit = normal-fits r typed ok
+-- ---- what a call wrote
 
-same-record : (a b : Record) (x : Reading) → x ≡ accepted a → x ≡ accepted b → a ≡ b
-same-record a b x p q = ap (λ (y : Reading). y .value) (sym p ∙ q)
+-- octets were laid out
+laid : (o : Checked (List ℕ)) → written o .refusal ≡ 0 → (d : List ℕ) → o ≡ accept (octetsWritten (written o) (buffer o d))
+laid (refuse x) z d = absurd (no-zero x z)
+laid (accept w) z d = ap (λ (l : List ℕ). accept l) (sym (take-at w _ _ refl))
 
--- ---- for every accepted message
+-- they are the normal form of a valid record
+wrote : (r : Record) {d e : List ℕ} {w : Written} → Writes r d w e → w .refusal ≡ 0 → (valid r ≡ true) × (octetsWritten w e ≡ normal r)
+unfolding writing
+wrote r {d} {e} {w} h z =
+    let o = writing r (length d) in
+    let q : o ≡ accept (octetsWritten w e) = rw (h .answers, h .leaves) (laid o (rw (h .answers) at z) d) in
+    demanded (valid r) notValid (fitting (normal r) (length d)) _ q λ v f.
+    demanded (leb (length (normal r)) (length d)) bufferTooShort (accept (normal r)) _ f λ _ g.
+    (v, same g)
+  where
+    same : {u v : List ℕ} → _≡_ {A = Checked (List ℕ)} (accept u) (accept v) → v ≡ u
+    same g = cc
 
-module _ (m : List ℕ) (o : Octets m) (r : Record) (accepts : answer (reading m) ≡ accepted r) where
-  -- its record is valid
-  pub accepted-valid : TypedRecord r × (valid r ≡ true)
-  accepted-valid = record-valid m o r (exact m o r .0 accepts)
+fitted : (r : Record) {d e : List ℕ} {w : Written} → Writes r d w e → valid r ≡ true → length (normal r) ≤ length d → w .refusal ≡ 0
+unfolding writing
+fitted r {d} h v l = rw (h .answers, v, le-leb (length (normal r)) (length d) l)
 
-  -- writing it gives the same octets exactly if the message is in normal form
-  pub unchanged : (normal r ≡ m) ↔ NormalForm m
-  unchanged = (forwards, backwards)
-    where
-      forwards : normal r ≡ m → NormalForm m
-      forwards e = subst NormalForm e (normal-normal r (accepted-valid .0) (accepted-valid .1))
+-- ---- every valid record is read back from its normal form
 
-      backwards : NormalForm m → normal r ≡ m
-      backwards n = ap normal (same-record r (n .content) (answer (reading m)) accepts (exact m o (n .content) .1 (n .formed))) ∙ normal-is m o n
+pub reads-back : (r : Record) → TypedRecord r → valid r ≡ true → answer (reading (normal r)) ≡ accepted r
+reads-back r typed ok = exact (normal r) (normal-octets r typed ok) r .1 (normal-formed r typed ok)
 
--- ---- so
+-- ---- and the record of an accepted message is valid, and written as the message exactly if that is in normal form
 
--- two valid records with the same normal form are equal
-pub one-record : (r s : Record) → TypedRecord r → valid r ≡ true → TypedRecord s → valid s ≡ true → normal r ≡ normal s → r ≡ s
-one-record r s t p u q e = same-record r s (answer (reading (normal s))) (ap (λ (l : List ℕ). answer (reading l)) (sym e) ∙ reads-back r t p) (reads-back s u q)
+module _ (m : List ℕ) (o : Octets m) (r : Record) (h : answer (reading m) ≡ accepted r) where
+  accepted-valid : TypedRecord r × (valid r ≡ true)
+  accepted-valid = record-valid m o r (exact m o r .0 h)
 
--- a message in normal form is the normal form of exactly one record
-pub of-one-record : (m : List ℕ) → Octets m → NormalForm m
-    → (r : Record) × (TypedRecord r × (valid r ≡ true) × (normal r ≡ m)) × ((s : Record) → TypedRecord s → valid s ≡ true → normal s ≡ m → s ≡ r)
-of-one-record m o n =
-    let r = n .content in
-    let v = record-valid m o r (n .formed) in
-    (r, (v .0, v .1, normal-is m o n), λ s t p e. one-record s r t p (v .0) (v .1) (e ∙ sym (normal-is m o n)))
+  kept : (normal r ≡ m) ↔ NormalForm m
+  kept = (
+    λ e. subst NormalForm e (normal-normal r (accepted-valid .0) (accepted-valid .1)),
+    λ n. ap (λ (a : Reading). normal (a .value)) (sym h ∙ exact m o (n .content) .1 (n .formed)) ∙ normal-is m o n,
+  )
+
+pub demand-2 : Demand2
+demand-2 = record {
+  exact = λ m a h r. subst (λ (b : Reading). (b ≡ accepted r) ↔ WellFormed m r) (sym (h .answers)) (exact m (h .octets) r);
+  writes = λ r d e w h v l. let z = fitted r (h .writes) v l in record {
+    accepted = z;
+    octets = wrote r (h .writes) z .1;
+    form = normal-normal r (h .typed) v;
+    limit = normal-fits r (h .typed) v;
+  };
+  back = λ r d e w a h z k. let q = wrote r (h .writes) z in k .answers ∙ (ap (λ (l : List ℕ). answer (reading l)) (q .1) ∙ reads-back r (h .typed) (q .0));
+  sound = λ m a h z. accepted-valid m (h .octets) (a .value) (accepts h z) .1;
+  unchanged = λ m d e a w h z k y. let q = wrote (a .value) (k .writes) y .1 in let u = kept m (h .octets) (a .value) (accepts h z) in (λ i. u .0 (sym q ∙ i), λ n. q ∙ u .1 n);
+}

@@ -1,4 +1,5 @@
 pub mod Laws
+pub mod Types
 pub mod Outcomes
 pub mod Bits
 pub mod BlockCases

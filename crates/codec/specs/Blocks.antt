@@ -74,13 +74,18 @@ csConfiguration =
     ∷ octets "address" 6 free  -- 3-8
     ∷ []
 
+-- the fields after the name
+abbrev pub nanAfterName : Layout
+nanAfterName =
+    number "role" 1 (between 0 1)  -- 1 octet
+    ∷ number "periodic" 1 periodic  -- 1 octet
+    ∷ []
+
 -- Needs 5+n.
 abbrev pub nanConfiguration : Layout
 nanConfiguration =
     counted "name length" "name" (between 1 64) 64  -- 2, and n octets
-    ∷ number "role" 1 (between 0 1)  -- 1 octet
-    ∷ number "periodic" 1 periodic  -- 1 octet
-    ∷ []
+    ∷ nanAfterName
 
 -- ---- both: RSSI's two blocks are alike
 

@@ -9,6 +9,7 @@ pub mod WellFormed
 pub mod Valid
 pub mod NormalForm
 pub mod Writing
+pub mod Demand2
 pub mod Starred
 pub mod Places
 pub mod Listing

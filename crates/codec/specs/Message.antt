@@ -1,17 +1,19 @@
 -- Messages: the head, the blocks, the end of the message, and the order of checks.
 use Prim.Native.Nat.{ℕ, zero, suc, _+_}
+use mathlib.Core.Path.{_≡_}
 use mathlib.Core.List.{List, [], _∷_}
 use mathlib.Core.Bool.{Bool, false, _&&_, _||_, not, cond}
 use lib.Count.{ones}
 use lib.Dec.{leb, ltb, eqb}
 use lib.ListN.{length, getD}
-use Rattle.codec.specs.Octets.{part, ofLE}
+use Rattle.codec.specs.Octets.{Octets, part, ofLE}
 use Rattle.codec.specs.Refusal.{Checked, accept, demand, andThen, tooLong, endsEarly, reservedId, wrongVersion, setsDiffer, blockTooSmall, wrongBlock, leftOver}
 use Rattle.codec.specs.Layout.{Layout, Values, member, zeroes, value, least, fault}
 use Rattle.codec.specs.Blocks.{capabilityBlock, configurationBlock}
 use Rattle.codec.specs.Technology.{bit, known}
-use Rattle.codec.specs.Records.{Column, capabilities, configurations, blank}
+use Rattle.codec.specs.Records.{Column, capabilities, configurations, blank, answer}
 use Rattle.codec.specs.declared.records.Record.{Record}
+use Rattle.codec.specs.declared.records.Reading.{Reading}
 
 -- a message has at most so many octets
 abbrev pub messageLimit : ℕ
@@ -147,3 +149,8 @@ recordOf id set blocks = record {
 
 unfoldable pub reading : List ℕ → Checked Record
 reading m = andThen (parse m) λ blocks. accept (recordOf (idOf m) (setOf m) blocks)
+
+-- what a call of the reader returns that is given m; these are octets, as the type of the code ensures
+pub record Reads (m : List ℕ) (a : Reading) : Type 0 where
+  pub octets : Octets m
+  pub answers : a ≡ answer (reading m)

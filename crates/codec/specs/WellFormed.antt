@@ -29,6 +29,11 @@ abbrev pub Once : List (List ℕ) → Type 0
 Once [] = Unit {0}
 Once (b ∷ blocks) = Each (λ c. getD c 0 0 ≡ getD b 0 0 → ⊥) blocks × Once blocks
 
+-- a block with this ID is among the blocks
+pub data Has (id : ℕ) : List (List ℕ) → Type 0 where
+  this : {b : List ℕ} {blocks : List (List ℕ)} → getD b 0 0 ≡ id → Has id (b ∷ blocks)
+  later : {b : List ℕ} {blocks : List (List ℕ)} → Has id blocks → Has id (b ∷ blocks)
+
 -- a set, and in a Configuration the same set again
 abbrev pub sets : ℕ → ℕ → List ℕ
 sets id set = toLE 2 set ++ cond (eqb id 2) (toLE 2 set) []

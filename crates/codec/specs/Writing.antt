@@ -3,9 +3,9 @@ use Prim.Native.Nat.{ℕ}
 use mathlib.Core.Path.{_≡_}
 use mathlib.Core.List.{List, _++_}
 use lib.Dec.{leb}
-use lib.ListN.{length, drop}
+use lib.ListN.{length, take, drop}
 use Rattle.codec.specs.Refusal.{Checked, refuse, accept, demand, numberOf, bufferTooShort, notValid}
-use Rattle.codec.specs.Valid.{valid}
+use Rattle.codec.specs.Valid.{TypedRecord, valid}
 use Rattle.codec.specs.NormalForm.{normal}
 use Rattle.codec.specs.declared.records.Record.{Record}
 use Rattle.codec.specs.declared.records.Written.{Written}
@@ -33,6 +33,15 @@ pub record LaysOut (o : Checked (List ℕ)) (d : List ℕ) (answer : Written) (e
   pub answers : answer ≡ written o
   pub leaves : e ≡ buffer o d
 
--- what the writer does
+-- what the writer does with a record
 abbrev pub Writes : Record → List ℕ → Written → List ℕ → Type 0
 Writes r d answer e = LaysOut (writing r (length d)) d answer e
+
+-- what a call of `write` does, whose record is one that the types of the code allow
+pub record WritesTyped (r : Record) (d : List ℕ) (answer : Written) (e : List ℕ) : Type 0 where
+  pub typed : TypedRecord r
+  pub writes : Writes r d answer e
+
+-- the octets that a call wrote
+abbrev pub octetsWritten : Written → List ℕ → List ℕ
+octetsWritten answer e = take (answer .length) e

@@ -18,7 +18,7 @@ ghost use mathlib.Core.Path.{_≡_};
 ghost use mathlib.Core.Bool.{true};
 ghost use Prim.Native.Nat.{_+_, _≤_};
 ghost use lib.ListN.{length, getD, replicate};
-ghost use Rattle.codec.specs.Message.{idOf, carriesBlocks, layoutsOf, reading};
+ghost use Rattle.codec.specs.Message.{idOf, carriesBlocks, layoutsOf, reading, Reads};
 ghost use Rattle.codec.specs.Records.{capabilities, configurations, accepted, answer, forTag};
 ghost use Rattle.codec.specs.Places.{Placed, blockOrZeros, columnAt, recordAt};
 
@@ -99,7 +99,7 @@ fn record_at(m: &[u8], found: &[u16; 5]) -> Record
 
 // Reads a message: its record, or the number of the refusal that the order of checks names.
 pub fn read(message: &[u8]) -> Reading
-    ensures { λ r. ⌜ r ≡ answer (reading (now (message .entry))) ⌝ }
+    ensures { λ r. ⌜ Reads (now (message .entry)) r ⌝ }
 {
     let mut found = [0u16; 5];
     let fault = message_fault(message, &mut found);

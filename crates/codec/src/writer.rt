@@ -26,7 +26,7 @@ ghost use Prim.Native.Nat.{_+_, _≤_};
 ghost use lib.ListN.{length};
 ghost use Rattle.codec.specs.Message.{assigned};
 ghost use Rattle.codec.specs.Records.{capabilities, configurations, response, only, settings, withoutBlocks, setRecord};
-ghost use Rattle.codec.specs.Writing.{Writes};
+ghost use Rattle.codec.specs.Writing.{Writes, WritesTyped};
 ghost use Rattle.codec.specs.Puts.{Put, head, columnOctets, LongCapability, LongConfiguration, Fit};
 
 // How many octets the blocks of a set take in message 1.
@@ -158,7 +158,7 @@ pub fn write_set(message: SetMessage, set: u16, out: &mut [u8]) -> Written
 // Writes a record: a record that is not valid and then a buffer that is too short are refused, and the buffer stays. What a
 // message does not use has to be zero; the rest is tested where it is written.
 pub fn write(value: Record, out: &mut [u8]) -> Written
-    ensures { λ r. ⌜ Writes value (now (out .entry)) r (now (out .exit)) ⌝ }
+    ensures { λ r. ⌜ WritesTyped value (now (out .entry)) r (now (out .exit)) ⌝ }
 {
     if value.id == 1 {
         let rest = rest_zero(value.set, value.capability);

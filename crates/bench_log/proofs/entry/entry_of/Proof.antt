@@ -52,7 +52,7 @@ returns-2 : tie.Need-returns-2
 returns-2 c =
     let s = c .before .before .before .before .before .before .before .before .before .args .octets .now in
     let n : 4 + c .before .before .before .joined .result - 4 ≡ lengthIn s = omega (arith, c .before .before .before .joined .ensures) in
-    entry-read s _ (keeps (c .before .before .before .before .before .before)) (c .before .read .ensures ∙ rw n)
+    entry-read s _ (keeps (c .before .before .before .before .before .before)) (c .before .read .ensures .answers ∙ rw n)
 
 pub entry-of-spec : {M : Type 1} → statement M
 entry-of-spec =

@@ -1,4 +1,5 @@
 use Rattle.codec.proofs.Found.{Found, found-by, reads-refused}
+use Rattle.codec.specs.Octets.{Octets}
 use Rattle.codec.specs.Records.{accepted}
 use mathlib.Core.Path.{ap, _∙_}
 use native.Mathlib.Omega.{arith}
@@ -6,8 +7,11 @@ use borrow.Author.Needs.{needs}
 use Rattle.codec.proofs.reader.read.Statement.{statement}
 use Rattle.codec.proofs.reader.read.Tie as tie
 
+octets : (c : tie.After-shared-slice-known) → Octets (c .before .args .message .now)
+octets c i = omega (arith, c .shared-slice-known .given i)
+
 found : (c : tie.Else1) → Found (c .before .before .before .before .args .message .now) (c .before .message-fault .last .1 .0)
-found c = found-by (c .before .before .before .before .args .message .now) (λ i. omega (arith, c .before .before .before .shared-slice-known .given i)) (c .before .message-fault .ensures) (c .if1 .left)
+found c = found-by (c .before .before .before .before .args .message .now) (octets (c .before .before .before)) (c .before .message-fault .ensures) (c .if1 .left)
 
 message-fault-requires : tie.Need-message-fault-requires
 message-fault-requires c κs = search needs
@@ -16,13 +20,13 @@ refused-requires : tie.Need-refused-requires
 refused-requires c κs = search needs
 
 returns : tie.Need-returns
-returns c = c .refused .ensures ∙ reads-refused _ _ (c .before .before .message-fault .ensures .number) (c .before .if1 .taken)
+returns c = record { octets = octets (c .before .before .before .before); answers = c .refused .ensures ∙ reads-refused _ _ (c .before .before .message-fault .ensures .number) (c .before .if1 .taken) }
 
 record-at-requires : tie.Need-record-at-requires
 record-at-requires c κs = (found (c .before) .four, found (c .before) .placed)
 
 returns-2 : tie.Need-returns-2
-returns-2 c = ap accepted (c .record-at .ensures) ∙ found (c .before .before) .reads
+returns-2 c = record { octets = octets (c .before .before .before .before .before); answers = ap accepted (c .record-at .ensures) ∙ found (c .before .before) .reads }
 
 pub read-spec : {M : Type 1} → statement M
 read-spec =

@@ -5,12 +5,16 @@ use Rattle.codec.proofs.Laws.{failed, passed}
 use Rattle.codec.specs.Message.{assigned}
 use Rattle.codec.specs.Puts.{restZero}
 use Rattle.codec.specs.Records.{configurations}
-use Rattle.codec.specs.Valid.{validColumn}
+use Rattle.codec.specs.Valid.{TypedRecord, validColumn}
+use Rattle.codec.proofs.Types.{record-typed}
 use mathlib.Core.Bool.{_&&_}
 use mathlib.Core.Path.{_≡_}
 use borrow.Author.Needs.{needs}
 use Rattle.codec.proofs.writer.write.Statement.{statement}
 use Rattle.codec.proofs.writer.write.Tie as tie
+
+typed : (c : tie.Start) → TypedRecord (c .args .value)
+typed c = record-typed (c .args .value) _ (c .good .0)
 
 -- what the tests of what is not used say
 rest : (c : tie.After-no-configuration) → (c .before .rest-zero .result && c .no-configuration .result) ≡ (restZero (c .before .before .before .before .before .args .value .set) (c .before .before .before .before .before .args .value .capability) && validColumn configurations 0 (c .before .before .before .before .before .args .value .configuration))
@@ -29,7 +33,7 @@ refused-requires : tie.Need-refused-requires
 refused-requires c κs = search needs
 
 returns : tie.Need-returns
-returns c = rw (c .refused .ensures) (not-valid (c .before .before .before .before .before .before .before .args .value) (c .before .before .before .before .before .before .before .args .out .now) (rest-used _ (c .before .before .before .before .if1 .taken) (failed (rest (c .before .before)) (c .before .if2 .taken))))
+returns c = record { typed = typed (c .before .before .before .before .before .before .before); writes = rw (c .refused .ensures) (not-valid (c .before .before .before .before .before .before .before .args .value) (c .before .before .before .before .before .before .before .args .out .now) (rest-used _ (c .before .before .before .before .if1 .taken) (failed (rest (c .before .before)) (c .before .if2 .taken)))) }
 
 write-response-requires : tie.Need-write-response-requires
 write-response-requires c κs = search needs
@@ -38,7 +42,7 @@ same-length : tie.Need-same-length
 same-length c = search needs
 
 returns-2 : tie.Need-returns-2
-returns-2 c = as-response (c .before .before .before .before .before .before .before .before .before .before .args .value) (c .before .before .before .before .before .before .before .before .before .before .args .out .now) (c .before .before .before .before .before .before .before .if1 .taken) (passed (rest (c .before .before .before .before .before)) (c .before .before .before .before .if2 .left)) (c .before .before .write-response .ensures)
+returns-2 c = record { typed = typed (c .before .before .before .before .before .before .before .before .before .before); writes = as-response (c .before .before .before .before .before .before .before .before .before .before .args .value) (c .before .before .before .before .before .before .before .before .before .before .args .out .now) (c .before .before .before .before .before .before .before .if1 .taken) (passed (rest (c .before .before .before .before .before)) (c .before .before .before .before .if2 .left)) (c .before .before .write-response .ensures) }
 
 valid-capability-requires : tie.Need-valid-capability-requires
 valid-capability-requires c κs = search needs
@@ -47,7 +51,7 @@ refused-requires-2 : tie.Need-refused-requires-2
 refused-requires-2 c κs = search needs
 
 returns-3 : tie.Need-returns-3
-returns-3 c = rw (c .refused2 .ensures) (not-valid (c .before .before .before .before .before .before .args .value) (c .before .before .before .before .before .before .args .out .now) (capability-used _ (c .before .before .before .if1 .left) (failed (c .before .before .valid-capability .ensures) (c .before .if3 .taken))))
+returns-3 c = record { typed = typed (c .before .before .before .before .before .before); writes = rw (c .refused2 .ensures) (not-valid (c .before .before .before .before .before .before .args .value) (c .before .before .before .before .before .before .args .out .now) (capability-used _ (c .before .before .before .if1 .left) (failed (c .before .before .valid-capability .ensures) (c .before .if3 .taken)))) }
 
 write-settings-requires : tie.Need-write-settings-requires
 write-settings-requires c κs = search needs
@@ -56,7 +60,7 @@ same-length-2 : tie.Need-same-length-2
 same-length-2 c = search needs
 
 returns-4 : tie.Need-returns-4
-returns-4 c = as-settings (c .before .before .before .before .before .before .before .before .before .before .before .args .value) (c .before .before .before .before .before .before .before .before .before .before .before .args .out .now) (c .before .before .before .before .before .before .before .before .if1 .left) (passed (c .before .before .before .before .before .before .before .valid-capability .ensures) (c .before .before .before .before .before .before .if3 .left)) (c .before .before .before .before .if4 .taken) (c .before .before .write-settings .ensures)
+returns-4 c = record { typed = typed (c .before .before .before .before .before .before .before .before .before .before .before); writes = as-settings (c .before .before .before .before .before .before .before .before .before .before .before .args .value) (c .before .before .before .before .before .before .before .before .before .before .before .args .out .now) (c .before .before .before .before .before .before .before .before .if1 .left) (passed (c .before .before .before .before .before .before .before .valid-capability .ensures) (c .before .before .before .before .before .before .if3 .left)) (c .before .before .before .before .if4 .taken) (c .before .before .write-settings .ensures) }
 
 assigned-requires : tie.Need-assigned-requires
 assigned-requires c κs = search needs
@@ -68,7 +72,7 @@ refused-requires-3 : tie.Need-refused-requires-3
 refused-requires-3 c κs = search needs
 
 returns-5 : tie.Need-returns-5
-returns-5 c = rw (c .refused3 .ensures) (not-valid (c .before .before .before .before .before .before .before .before .before .before .before .args .value) (c .before .before .before .before .before .before .before .before .before .before .before .args .out .now) (configuration-used _ (c .before .before .before .before .before .before .before .before .if1 .left) (passed (c .before .before .before .before .before .before .before .valid-capability .ensures) (c .before .before .before .before .before .before .if3 .left)) (c .before .before .before .before .if4 .left) (failed (other (c .before .before)) (c .before .if5 .taken))))
+returns-5 c = record { typed = typed (c .before .before .before .before .before .before .before .before .before .before .before); writes = rw (c .refused3 .ensures) (not-valid (c .before .before .before .before .before .before .before .before .before .before .before .args .value) (c .before .before .before .before .before .before .before .before .before .before .before .args .out .now) (configuration-used _ (c .before .before .before .before .before .before .before .before .if1 .left) (passed (c .before .before .before .before .before .before .before .valid-capability .ensures) (c .before .before .before .before .before .before .if3 .left)) (c .before .before .before .before .if4 .left) (failed (other (c .before .before)) (c .before .if5 .taken)))) }
 
 write-without-blocks-requires : tie.Need-write-without-blocks-requires
 write-without-blocks-requires c κs = (and-true (assigned (c .before .before .before .before .before .before .before .before .before .before .before .args .value .id)) _ (passed (other (c .before .before)) (c .before .if5 .left)) .0, c .before .before .before .before .before .before .before .before .if1 .left, c .before .before .before .before .if4 .left)
@@ -77,7 +81,7 @@ same-length-3 : tie.Need-same-length-3
 same-length-3 c = search needs
 
 returns-6 : tie.Need-returns-6
-returns-6 c = as-bare (c .before .before .before .before .before .before .before .before .before .before .before .before .before .before .args .value) (c .before .before .before .before .before .before .before .before .before .before .before .before .before .before .args .out .now) (c .before .before .before .before .before .before .before .before .before .before .before .if1 .left) (passed (c .before .before .before .before .before .before .before .before .before .before .valid-capability .ensures) (c .before .before .before .before .before .before .before .before .before .if3 .left)) (c .before .before .before .before .before .before .before .if4 .left) (passed (other (c .before .before .before .before .before)) (c .before .before .before .before .if5 .left)) (c .before .before .write-without-blocks .ensures)
+returns-6 c = record { typed = typed (c .before .before .before .before .before .before .before .before .before .before .before .before .before .before); writes = as-bare (c .before .before .before .before .before .before .before .before .before .before .before .before .before .before .args .value) (c .before .before .before .before .before .before .before .before .before .before .before .before .before .before .args .out .now) (c .before .before .before .before .before .before .before .before .before .before .before .if1 .left) (passed (c .before .before .before .before .before .before .before .before .before .before .valid-capability .ensures) (c .before .before .before .before .before .before .before .before .before .if3 .left)) (c .before .before .before .before .before .before .before .if4 .left) (passed (other (c .before .before .before .before .before)) (c .before .before .before .before .if5 .left)) (c .before .before .write-without-blocks .ensures) }
 
 pub write-spec : {M : Type 1} → statement M
 write-spec =
