@@ -8,17 +8,15 @@ use session::Session;
 use session::Started;
 ghost use mathlib.Core.Path.{_≡_};
 ghost use Rattle.codec.specs.Listing.{nthBlock};
-ghost use Rattle.codec.specs.Message.{reading};
-ghost use Rattle.codec.specs.Records.{answer};
-ghost use Rattle.codec.specs.Writing.{Writes};
+ghost use Rattle.codec.specs.Message.{Reads};
+ghost use Rattle.codec.specs.Writing.{WritesTyped};
 ghost use Rattle.session.specs.Rules.{message, advertisement};
-ghost use Rattle.session.specs.Session.{profileOf, started};
-ghost use Rattle.raydulcimer.specs.ByReference.{Alters};
+ghost use Rattle.session.specs.Session.{Does, profileOf, started};
 
 // Reads a message: its record, or the number of the refusal that the order of checks names.
 #[no_mangle]
 pub extern "C" fn raydulcimer_read(message: &[u8]) -> Reading
-    ensures { λ r. ⌜ r ≡ answer (reading (now (message .entry))) ⌝ }
+    ensures { λ r. ⌜ Reads (now (message .entry)) r ⌝ }
 {
     codec::read(message)
 }
@@ -27,7 +25,7 @@ pub extern "C" fn raydulcimer_read(message: &[u8]) -> Reading
 // too short are refused, and the buffer stays as it is.
 #[no_mangle]
 pub extern "C" fn raydulcimer_write(value: Record, out: &mut [u8]) -> Written
-    ensures { λ r. ⌜ Writes value (now (out .entry)) r (now (out .exit)) ⌝ }
+    ensures { λ r. ⌜ WritesTyped value (now (out .entry)) r (now (out .exit)) ⌝ }
 {
     codec::write(value, out)
 }
@@ -51,7 +49,7 @@ pub extern "C" fn raydulcimer_start(profile: Record, replies: u8) -> Started
 // Gives a session a message.
 #[no_mangle]
 pub extern "C" fn raydulcimer_message(s: &mut Session, octets: &[u8], out: &mut [u8]) -> Answer
-    ensures { λ r. ⌜ Alters (now (s .entry)) (message (now (octets .entry)) (now (out .entry))) r (now (s .exit)) (now (out .exit)) ⌝ }
+    ensures { λ r. ⌜ Does (now (s .entry)) (message (now (octets .entry)) (now (out .entry))) r (now (s .exit)) (now (out .exit)) ⌝ }
 {
     let t = session::message(*s, octets, out);
     *s = t.session;
@@ -61,7 +59,7 @@ pub extern "C" fn raydulcimer_message(s: &mut Session, octets: &[u8], out: &mut 
 // Has a session advertise its whole profile.
 #[no_mangle]
 pub extern "C" fn raydulcimer_advertise(s: &mut Session, out: &mut [u8]) -> Answer
-    ensures { λ r. ⌜ Alters (now (s .entry)) (advertisement (now (out .entry))) r (now (s .exit)) (now (out .exit)) ⌝ }
+    ensures { λ r. ⌜ Does (now (s .entry)) (advertisement (now (out .entry))) r (now (s .exit)) (now (out .exit)) ⌝ }
 {
     let t = session::advertise(*s, out);
     *s = t.session;

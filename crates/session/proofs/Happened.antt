@@ -8,7 +8,7 @@ use mathlib.Core.Bool.{Bool, true, false, cond}
 use lib.Dec.{leb}
 use lib.ListN.{length}
 use borrow.Author.Tests.{le-leb, lt-leb, leb-true, leb-false}
-use Rattle.codec.specs.Refusal.{Checked, refuse, accept, andThen, bufferTooShort}
+use Rattle.codec.specs.Refusal.{Checked, refuse, accept, andThen, Refusal, bufferTooShort, notForTag}
 use Rattle.codec.specs.Records.{setRecord}
 use Rattle.codec.specs.Message.{reading}
 use Rattle.codec.specs.NormalForm.{normal}
@@ -18,7 +18,7 @@ use Rattle.codec.proofs.Outcomes.{by-bool}
 use Rattle.codec.proofs.Pieces.{normal-set}
 use Rattle.session.specs.declared.state.Profile.{Profile}
 use Rattle.session.specs.Technology.{names, setOf}
-use Rattle.session.specs.Rules.{Call, message, advertisement, Kind, request, configuration, stop, other, kindOf, explicit, octetsOf, shows, capabilityReply, Served, conclude, after, setBy, endedBy, serve, call, answerTo}
+use Rattle.session.specs.Rules.{Call, message, advertisement, Kind, request, configuration, stop, other, kindOf, explicit, octetsOf, shows, capabilityReply, Served, conclude, giveOut, configure, halt, setBy, endedBy, serve, call, answerTo}
 use Rattle.session.specs.Ledger.{Ledger, ledgerKeeps, ledgerCall}
 use Rattle.session.specs.History.{accepted, heard, Fits, Accepted, Advertised}
 
@@ -52,11 +52,11 @@ module _ {p : Profile} {c : Call} where
 -- ---- what happens
 
 pub data Happened (p : Profile) (l : Ledger) (c : Call) : Type 0 where
-  refused : after l (ledgerCall p l c) ≡ l → ((k : Kind) (r : Record) → Accepted p k c r → ⊥) → (Advertised p c → ⊥) → Happened p l c
-  asked : (r : Record) → Accepted p request c r → after l (ledgerCall p l c) ≡ ledgerKeeps .give (shows p (names (r .set))) l → Happened p l c
-  advertised : Advertised p c → after l (ledgerCall p l c) ≡ ledgerKeeps .give (shows p (λ t. true)) l → Happened p l c
-  configured : (r : Record) → Accepted p configuration c r → after l (ledgerCall p l c) ≡ ledgerKeeps .put (setBy ledgerKeeps p (r .set) (r .configuration) l) (r .configuration) l → Happened p l c
-  stopped : (r : Record) → Accepted p stop c r → after l (ledgerCall p l c) ≡ ledgerKeeps .stop (endedBy ledgerKeeps p (r .set) l) l → Happened p l c
+  refused : (x : Refusal) → ledgerCall p l c ≡ refuse x → ((k : Kind) (r : Record) → Accepted p k c r → ⊥) → (Advertised p c → ⊥) → Happened p l c
+  asked : (r : Record) → Accepted p request c r → ledgerCall p l c ≡ accept (giveOut ledgerKeeps p (names (r .set)) l) → Happened p l c
+  advertised : Advertised p c → ledgerCall p l c ≡ accept (giveOut ledgerKeeps p (λ t. true) l) → Happened p l c
+  configured : (r : Record) → Accepted p configuration c r → ledgerCall p l c ≡ accept (configure ledgerKeeps p (r .set) (r .configuration) l) → Happened p l c
+  stopped : (r : Record) → Accepted p stop c r → ledgerCall p l c ≡ accept (halt ledgerKeeps p (r .set) l) → Happened p l c
 
 -- the reply fits, or it does not
 fits : (b : List ℕ) (v : Served Ledger) → length (octetsOf (v .reply)) ≤ length b → conclude b v ≡ accept v
@@ -104,21 +104,21 @@ module _ (p : Profile) (l : Ledger) (b : List ℕ) where
     unfolding serve
     by-kind request h =
         by-room (length (normal (capabilityReply p (names (r .set))))) (length b)
-        (λ y. asked r (record { says = says; kind = h; room = y }) (ap (λ (o : Checked (Served Ledger)). after l o) (to request h ∙ fits b _ y)))
-        (λ n. refused (ap (λ (o : Checked (Served Ledger)). after l o) (to request h ∙ fits-not b _ n)) (unaccepted request h (λ y. omega (arith, n, y))) unadvertised)
+        (λ y. asked r (record { says = says; kind = h; room = y }) (to request h ∙ fits b _ y))
+        (λ n. refused bufferTooShort (to request h ∙ fits-not b _ n) (unaccepted request h (λ y. omega (arith, n, y))) unadvertised)
     by-kind configuration h =
         let set = setOf (setBy ledgerKeeps p (r .set) (r .configuration) l) in
         let z = reply-length (explicit (p .replies)) SetMessage.ConfigurationResponse set in
         by-room (cond (explicit (p .replies)) 4 0) (length b)
-        (λ y. configured r (record { says = says; kind = h; room = y }) (ap (λ (o : Checked (Served Ledger)). after l o) (to configuration h ∙ fits b _ (rw z y))))
-        (λ n. refused (ap (λ (o : Checked (Served Ledger)). after l o) (to configuration h ∙ fits-not b _ (rw z n))) (unaccepted configuration h (λ y. omega (arith, n, y))) unadvertised)
+        (λ y. configured r (record { says = says; kind = h; room = y }) (to configuration h ∙ fits b _ (rw z y)))
+        (λ n. refused bufferTooShort (to configuration h ∙ fits-not b _ (rw z n)) (unaccepted configuration h (λ y. omega (arith, n, y))) unadvertised)
     by-kind stop h =
         let set = setOf (endedBy ledgerKeeps p (r .set) l) in
         let z = reply-length (explicit (p .replies)) SetMessage.StopResponse set in
         by-room (cond (explicit (p .replies)) 4 0) (length b)
-        (λ y. stopped r (record { says = says; kind = h; room = y }) (ap (λ (o : Checked (Served Ledger)). after l o) (to stop h ∙ fits b _ (rw z y))))
-        (λ n. refused (ap (λ (o : Checked (Served Ledger)). after l o) (to stop h ∙ fits-not b _ (rw z n))) (unaccepted stop h (λ y. omega (arith, n, y))) unadvertised)
-    by-kind other h = refused (ap (λ (o : Checked (Served Ledger)). after l o) (to other h)) (unaccepted other h (λ y. y)) unadvertised
+        (λ y. stopped r (record { says = says; kind = h; room = y }) (to stop h ∙ fits b _ (rw z y)))
+        (λ n. refused bufferTooShort (to stop h ∙ fits-not b _ (rw z n)) (unaccepted stop h (λ y. omega (arith, n, y))) unadvertised)
+    by-kind other h = refused notForTag (to other h) (unaccepted other h (λ y. y)) unadvertised
 
 abbrev isMessage : Call → ℕ
 isMessage (message m b) = 1
@@ -130,14 +130,14 @@ happened p l (message m b) = go (reading m) refl
   where
     go : (o : Checked Record) → reading m ≡ o → Happened p l (message m b)
     go (refuse x) e =
-        refused (ap (λ (o : Checked Record). after l (andThen o λ q. serve ledgerKeeps p (kindOf (q .id)) q l b)) e)
+        refused x (ap (λ (o : Checked Record). andThen o λ q. serve ledgerKeeps p (kindOf (q .id)) q l b) e)
         (λ k r a. Option·none-ne-some r (sym (ap accepted e) ∙ a .says))
         (λ d. let z = ap isMessage (d .is) in omega arith)
     go (accept r) e = by-kind p l b m r e (kindOf (r .id)) refl
 happened p l (advertisement b) =
     by-room (length (normal (capabilityReply p (λ t. true)))) (length b)
-    (λ y. advertised (record { is = refl; room = y }) (ap (λ (o : Checked (Served Ledger)). after l o) (fits b _ y)))
-    (λ n. refused (ap (λ (o : Checked (Served Ledger)). after l o) (fits-not b _ n)) (λ k r a. Option·none-ne-some r (a .says)) (λ d. let z = d .room in omega arith))
+    (λ y. advertised (record { is = refl; room = y }) (fits b _ y))
+    (λ n. refused bufferTooShort (fits-not b _ n) (λ k r a. Option·none-ne-some r (a .says)) (λ d. let z = d .room in omega arith))
 
 -- the set that an accepted Configuration returns
 pub configured-set : (p : Profile) (l : Ledger) (c : Call) (r : Record) → Accepted p configuration c r → answerTo (ledgerCall p l c) .set ≡ setOf (setBy ledgerKeeps p (r .set) (r .configuration) l)

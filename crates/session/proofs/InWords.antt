@@ -8,33 +8,34 @@ use mathlib.Core.Logic.{_↔_, _⊎_, inl, inr}
 use mathlib.Core.Bool.{Bool, true, false, cond, not, _&&_, true≢false, and-true as Bool·and-true, and-false, or-true, or-false}
 use lib.ListN.{length, length-append}
 use borrow.Author.Tests.{not-true}
+use Rattle.codec.specs.Refusal.{Checked, refuse, accept, Refusal}
+use Rattle.codec.specs.Records.{only}
+use Rattle.codec.specs.WellFormed.{Has}
+use Rattle.codec.specs.NormalForm.{blocksOf}
 use Rattle.codec.specs.declared.records.Record.{Record}
+use Rattle.codec.proofs.Columns.{response-has}
 use Rattle.codec.proofs.Outcomes.{by-bool, and-true}
 use Rattle.session.specs.declared.state.Profile.{Profile}
-use Rattle.session.specs.declared.state.Session.{Session}
-use Rattle.session.specs.declared.state.Started.{Started}
-use Rattle.session.specs.Technology.{Technology, Settings, settingsIn, capabilityIn, names, ranges, bars, within}
-use Rattle.session.specs.Rules.{Call, request, configuration, stop, after, shows, sets, setBy, endedBy, answerTo}
+use Rattle.session.specs.Technology.{Technology, uwb, cs, nan, rssi, idOf, setOf, Settings, settingsIn, capabilityIn, names, ranges, bars, within}
+use Rattle.session.specs.Rules.{Call, request, configuration, stop, Served, after, shows, capabilityReply, sets, setBy, endedBy, answerTo}
 use Rattle.session.specs.Ledger.{Ledger, nothing, isSome, ledgerKeeps, ledgerCall, stateAfter}
-use Rattle.session.specs.History.{Accepted, Advertised, Stops, Asked, GivesOut, Never, Barred, Sets, LastSet, Words}
-use Rattle.session.specs.Session.{inForceIn, profileOf, started}
-use Rattle.session.specs.Trace.{Event, Ran, callsOf}
+use Rattle.session.specs.History.{Account, Accepted, Stops, GivesOut, inReply, inAdvertisement, Never, Ends, Barred, Sets, LastSet, Words}
+use Rattle.session.specs.Demand3.{held}
 use Rattle.session.proofs.SetLaws.{names-set}
-use Rattle.session.proofs.Demand3.{profile, demand-3}
 use Rattle.session.proofs.Last.{Turn, stays, by-history}
 use Rattle.session.proofs.Happened.{Happened, refused, asked, advertised, configured, stopped, happened, configured-set, same-content, no-request-stop, no-request-configuration, no-configuration-stop, no-advertisement}
 
-both : {a b : Bool} → a ≡ true → b ≡ true → (a && b) ≡ true
+pub both : {a b : Bool} → a ≡ true → b ≡ true → (a && b) ≡ true
 both x y = rw (x, y)
 
 clash : {a : Bool} {C : Type 0} → a ≡ true → a ≡ false → C
 clash t f = absurd (true≢false (sym t ∙ f))
 
-some-of : {A C : Type 0} (o : Option A) → isSome o ≡ true → ((x : A) → o ≡ some x → C) → C
+pub some-of : {A C : Type 0} (o : Option A) → isSome o ≡ true → ((x : A) → o ≡ some x → C) → C
 some-of none h k = absurd (true≢false (sym h))
 some-of (some x) h k = k x refl
 
-is-some : {A : Type 0} {o : Option A} {x : A} → o ≡ some x → isSome o ≡ true
+pub is-some : {A : Type 0} {o : Option A} {x : A} → o ≡ some x → isSome o ≡ true
 is-some h = ap isSome h
 
 -- named, it is not there afterwards, whether it was there or not
@@ -51,89 +52,105 @@ abbrev flagged : Bool → Option (Unit {0})
 flagged true = some tt
 flagged false = none
 
-module _ (p : Profile) where
-  abbrev pub held : List Call → Ledger
-  held calls = stateAfter (ledgerCall p) nothing calls
+-- the state after an accepted call, and after a refused one
+moved : (l : Ledger) {o : Checked (Served Ledger)} {v : Served Ledger} → o ≡ accept v → after l o ≡ v .state
+moved l e = ap (λ (o : Checked (Served Ledger)). after l o) e
 
+left-as : (l : Ledger) {o : Checked (Served Ledger)} {x : Refusal} → o ≡ refuse x → after l o ≡ l
+left-as l e = ap (λ (o : Checked (Served Ledger)). after l o) e
+
+below-4 : (t : Technology) → idOf t < 4
+below-4 uwb = omega arith
+below-4 cs = omega arith
+below-4 nan = omega arith
+below-4 rssi = omega arith
+
+-- a reply holds a technology's block exactly if the call names it and the profile has it
+pub reply-holds : (p : Profile) (wanted : Technology → Bool) (t : Technology) → Has (idOf t) (blocksOf (capabilityReply p wanted)) ↔ (shows p wanted t ≡ true)
+reply-holds p wanted t =
+    let f = shows p wanted in
+    let q = response-has (setOf f) (only (setOf f) (p .capability)) (idOf t) (below-4 t) in
+    (λ h. sym (names-set f t) ∙ q .0 h, λ e. q .1 (names-set f t ∙ e))
+
+module _ (p : Profile) where
   -- the ledger's account of what ranges
-  abbrev pub InForce : List Call → (t : Technology) → Settings t → Type 0
-  InForce calls t x = held calls t .inForce ≡ some x
+  abbrev pub InForce : Account
+  InForce calls t x = held p calls t .inForce ≡ some x
 
   module _ (t : Technology) where
     -- ---- the mark
 
     abbrev mark : List Call → Option (Unit {0})
-    mark calls = flagged (held calls t .mark)
+    mark calls = flagged (held p calls t .mark)
 
     -- a Stop that ends its ranging, of a technology that this bars
-    record Ends (before : List Call) (c : Call) : Type 0 where
+    record Bars (before : List Call) (c : Call) : Type 0 where
       pub barring : bars t ≡ true
-      pub stops : Stops p t c
-      pub settings : Settings t
-      pub ranged : InForce before t settings
+      pub ends : Ends p InForce t before c
 
     abbrev Puts : List Call → Call → Unit {0} → Type 0
-    Puts before c u = Ends before c
+    Puts before c u = Bars before c
 
     module _ (before : List Call) (c : Call) where
       abbrev l : Ledger
-      l = held before
+      l = held p before
 
       marked-by : {k : Ledger} → after l (ledgerCall p l c) ≡ k → mark (before ++ c ∷ []) ≡ flagged (k t .mark)
       marked-by e = ap (λ (k : Ledger). flagged (k t .mark)) (state-snoc p nothing before c ∙ e)
 
-      given : (has : Technology → Bool) → after l (ledgerCall p l c) ≡ ledgerKeeps .give has l → (has t ≡ true → GivesOut p t c) → (GivesOut p t c → has t ≡ true) → (Ends before c → ⊥) → Turn mark Puts (GivesOut p t) before c
+      given : (has : Technology → Bool) → after l (ledgerCall p l c) ≡ ledgerKeeps .give has l → (has t ≡ true → GivesOut p t c) → (GivesOut p t c → has t ≡ true) → (Bars before c → ⊥) → Turn mark Puts (GivesOut p t) before c
       given has e to from un = by-bool (has t)
           (λ y. inr (inl (record { drops = to y; unput = λ u. un; now = marked-by e ∙ rw (y, and-false (l t .mark)) })))
           (λ n. inr (inr (record { kept = λ g. clash (from g) n; unput = λ u. un; now = marked-by e ∙ rw (n, Bool·and-true (l t .mark)) })))
 
-      left : after l (ledgerCall p l c) t .mark ≡ l t .mark → (GivesOut p t c → ⊥) → (Ends before c → ⊥) → Turn mark Puts (GivesOut p t) before c
+      left : after l (ledgerCall p l c) t .mark ≡ l t .mark → (GivesOut p t c → ⊥) → (Bars before c → ⊥) → Turn mark Puts (GivesOut p t) before c
       left e k un = inr (inr (record { kept = k; unput = λ u. un; now = ap (λ (k : Ledger). flagged (k t .mark)) (state-snoc p nothing before c) ∙ ap flagged e }))
 
       turn-mark : Happened p l c → Turn mark Puts (GivesOut p t) before c
-      unfolding shows endedBy
-      turn-mark (refused e na nd) = left (ap (λ (k : Ledger). k t .mark) e) (λ g. none-given (g .1)) (λ h. na stop (h .stops .content) (h .stops .accepted))
+      unfolding endedBy
+      turn-mark (refused x e na nd) = left (ap (λ (k : Ledger). k t .mark) (left-as l e)) none-given (λ h. na stop (h .ends .stops .content) (h .ends .stops .accepted))
         where
-          none-given : Asked p t c ⊎ Advertised p c → ⊥
-          none-given (inl a) = na request (a .content) (a .accepted)
-          none-given (inr d) = nd d
-      turn-mark (asked r a e) = given (shows p (names (r .set))) e
-          (λ y. let z = and-true (names (r .set) t) (names (p .set) t) y in (z .1, inl (record { content = r; accepted = a; named = z .0 })))
-          (λ g. both (who (g .1)) (g .0))
-          (λ h. no-request-stop a (h .stops .accepted))
+          none-given : GivesOut p t c → ⊥
+          none-given (inReply r a h) = na request r a
+          none-given (inAdvertisement d h) = nd d
+      turn-mark (asked r a e) = given (shows p (names (r .set))) (moved l e) (λ y. inReply r a (reply-holds p (names (r .set)) t .1 y)) shown (λ h. no-request-stop a (h .ends .stops .accepted))
         where
-          who : Asked p t c ⊎ Advertised p c → names (r .set) t ≡ true
-          who (inl q) = ap (λ (x : Record). names (x .set) t) (same-content a (q .accepted)) ∙ q .named
-          who (inr d) = absurd (no-advertisement d a)
-      turn-mark (advertised d e) = given (shows p (λ t. true)) e (λ y. (y, inr d)) (λ g. g .0) (λ h. no-advertisement d (h .stops .accepted))
-      turn-mark (configured r a e) = left (ap (λ (k : Ledger). k t .mark) e) (λ g. none-given (g .1)) (λ h. no-configuration-stop a (h .stops .accepted))
+          shown : GivesOut p t c → shows p (names (r .set)) t ≡ true
+          shown (inReply q b h) = ap (λ (x : Record). shows p (names (x .set)) t) (same-content a b) ∙ reply-holds p (names (q .set)) t .0 h
+          shown (inAdvertisement d h) = absurd (no-advertisement d a)
+      turn-mark (advertised d e) = given (shows p (λ t. true)) (moved l e) (λ y. inAdvertisement d (reply-holds p (λ t. true) t .1 y)) shown (λ h. no-advertisement d (h .ends .stops .accepted))
         where
-          none-given : Asked p t c ⊎ Advertised p c → ⊥
-          none-given (inl q) = no-request-configuration (q .accepted) a
-          none-given (inr d) = no-advertisement d a
+          shown : GivesOut p t c → shows p (λ t. true) t ≡ true
+          shown (inReply r a h) = absurd (no-advertisement d a)
+          shown (inAdvertisement f h) = reply-holds p (λ t. true) t .0 h
+      turn-mark (configured r a e) = left (ap (λ (k : Ledger). k t .mark) (moved l e)) none-given (λ h. no-configuration-stop a (h .ends .stops .accepted))
+        where
+          none-given : GivesOut p t c → ⊥
+          none-given (inReply q b h) = no-request-configuration b a
+          none-given (inAdvertisement d h) = no-advertisement d a
       turn-mark (stopped r a e) = by-bool (bars t && (names (r .set) t && isSome (l t .inForce)))
           (λ y.
           let z = and-true (bars t) (names (r .set) t && isSome (l t .inForce)) y in
           let w = and-true (names (r .set) t) (isSome (l t .inForce)) (z .1) in
           some-of (l t .inForce) (w .1) (λ x q. inl (record {
             content = tt;
-            puts = record { barring = z .0; stops = record { content = r; accepted = a; named = w .0 }; settings = x; ranged = q };
+            puts = record { barring = z .0; ends = record { stops = record { content = r; accepted = a; named = w .0 }; settings = x; ranged = q } };
             only = λ u h. refl;
-            now = marked-by e ∙ rw (y, or-true (l t .mark));
+            now = marked-by (moved l e) ∙ rw (y, or-true (l t .mark));
           })))
-          (λ n. left (ap (λ (k : Ledger). k t .mark) e ∙ rw (n, or-false (l t .mark))) (λ g. none-given (g .1))
-          (λ h. clash (both (h .barring) (both (ap (λ (x : Record). names (x .set) t) (same-content a (h .stops .accepted)) ∙ h .stops .named) (is-some (h .ranged)))) n))
+          (λ n. left (ap (λ (k : Ledger). k t .mark) (moved l e) ∙ rw (n, or-false (l t .mark))) none-given
+          (λ h. clash (both (h .barring) (both (ap (λ (x : Record). names (x .set) t) (same-content a (h .ends .stops .accepted)) ∙ h .ends .stops .named) (is-some (h .ends .ranged)))) n))
         where
-          none-given : Asked p t c ⊎ Advertised p c → ⊥
-          none-given (inl q) = no-request-stop (q .accepted) a
-          none-given (inr d) = no-advertisement d a
+          none-given : GivesOut p t c → ⊥
+          none-given (inReply q b h) = no-request-stop b a
+          none-given (inAdvertisement d h) = no-advertisement d a
 
     turns : (before : List Call) (c : Call) → Turn mark Puts (GivesOut p t) before c
-    turns before c = turn-mark before c (happened p (held before) c)
+    turns before c = turn-mark before c (happened p (held p before) c)
 
     -- the mark stands exactly if a Stop has ended its ranging since its capabilities were last given out
-    pub barred-marked : bars t ≡ true → (calls : List Call) → Barred p InForce t calls → held calls t .mark ≡ true
-    barred-marked y calls b = unflag (held calls t .mark) (ap mark (b .split) ∙ whole)
+    pub barred-marked : bars t ≡ true → (calls : List Call) → Barred p InForce t calls → held p calls t .mark ≡ true
+    barred-marked y calls b = unflag (held p calls t .mark) (ap mark (b .split) ∙ whole)
       where
         unflag : (m : Bool) → flagged m ≡ some tt → m ≡ true
         unflag true h = refl
@@ -141,53 +158,53 @@ module _ (p : Profile) where
 
         put : Turn mark Puts (GivesOut p t) (b .before) (b .at) → mark (b .before ++ b .at ∷ []) ≡ some tt
         put (inl q) = q .now
-        put (inr (inl d)) = absurd (d .unput tt (record { barring = y; stops = b .stops; settings = b .settings; ranged = b .ranged }))
-        put (inr (inr k)) = absurd (k .unput tt (record { barring = y; stops = b .stops; settings = b .settings; ranged = b .ranged }))
+        put (inr (inl d)) = absurd (d .unput tt (record { barring = y; ends = b .ends }))
+        put (inr (inr k)) = absurd (k .unput tt (record { barring = y; ends = b .ends }))
 
         whole : mark (b .before ++ b .at ∷ b .since) ≡ some tt
         whole = ap mark (sym (append-assoc (b .before) (b .at ∷ []) (b .since))) ∙ stays mark Puts (GivesOut p t) turns (λ u v. refl) (b .since) (b .before ++ b .at ∷ []) tt (b .withheld) (put (turns (b .before) (b .at)))
 
-    pub marked-barred : (calls : List Call) → held calls t .mark ≡ true → (bars t ≡ true) × Barred p InForce t calls
+    pub marked-barred : (calls : List Call) → held p calls t .mark ≡ true → (bars t ≡ true) × Barred p InForce t calls
     unfolding nothing
     marked-barred calls h =
         let q = by-history mark Puts (GivesOut p t) turns refl calls tt .0 (ap flagged h) in
         let u = q .puts in
-        (u .barring, record { before = q .before; at = q .at; since = q .later; split = q .split; stops = u .stops; settings = u .settings; ranged = u .ranged; withheld = q .kept })
+        (u .barring, record { before = q .before; at = q .at; since = q .later; split = q .split; ends = u .ends; withheld = q .kept })
 
     -- ---- what a Configuration sets
 
-    freed : (before : List Call) → held before t .mark ≡ false → bars t ≡ true → Barred p InForce t before → ⊥
+    freed : (before : List Call) → held p before t .mark ≡ false → bars t ≡ true → Barred p InForce t before → ⊥
     freed before n y b = clash (barred-marked y before b) n
 
-    unmarked : (before : List Call) → (bars t ≡ true → Barred p InForce t before → ⊥) → held before t .mark ≡ false
-    unmarked before f = by-bool (held before t .mark) (λ y. let q = marked-barred before y in absurd (f (q .0) (q .1))) (λ n. n)
+    unmarked : (before : List Call) → (bars t ≡ true → Barred p InForce t before → ⊥) → held p before t .mark ≡ false
+    unmarked before f = by-bool (held p before t .mark) (λ y. let q = marked-barred before y in absurd (f (q .0) (q .1))) (λ n. n)
 
     -- an accepted Configuration sets it exactly if the rules say so
     module _ (before : List Call) (c : Call) (r : Record) (a : Accepted p configuration c r) where
-      pub rule : (x : Settings t) → Sets p InForce t before c x → setBy ledgerKeeps p (r .set) (r .configuration) (held before) t ≡ true
+      pub rule : (x : Settings t) → Sets p InForce t before c x → setBy ledgerKeeps p (r .set) (r .configuration) (held p before) t ≡ true
       unfolding setBy sets
       rule x h =
           let q = sym (same-content a (h .accepted)) in
-          subst (λ (y : Record). (names (y .set) t && (names (p .set) t && (within t (capabilityIn (p .capability) t) (settingsIn (y .configuration) t) && not (held before t .mark)))) ≡ true) q
+          subst (λ (y : Record). (names (y .set) t && (names (p .set) t && (within t (capabilityIn (p .capability) t) (settingsIn (y .configuration) t) && not (held p before t .mark)))) ≡ true) q
           (both (h .named) (both (h .has) (both (h .fit) (rw (unmarked before (h .free))))))
 
-      pub ruled : setBy ledgerKeeps p (r .set) (r .configuration) (held before) t ≡ true → Sets p InForce t before c (settingsIn (r .configuration) t)
+      pub ruled : setBy ledgerKeeps p (r .set) (r .configuration) (held p before) t ≡ true → Sets p InForce t before c (settingsIn (r .configuration) t)
       unfolding setBy sets
       ruled h =
           let u = and-true (names (r .set) t) _ h in
           let v = and-true (names (p .set) t) _ (u .1) in
-          let w = and-true (within t (capabilityIn (p .capability) t) (settingsIn (r .configuration) t)) (not (held before t .mark)) (v .1) in
-          record { content = r; accepted = a; named = u .0; has = v .0; fit = w .0; free = freed before (not-true (held before t .mark) (w .1)); settings = refl }
+          let w = and-true (within t (capabilityIn (p .capability) t) (settingsIn (r .configuration) t)) (not (held p before t .mark)) (v .1) in
+          record { content = r; accepted = a; named = u .0; has = v .0; fit = w .0; free = freed before (not-true (held p before t .mark) (w .1)); settings = refl }
 
     -- ---- the settings in force, of a technology that the tag ranges with
 
     module _ (ranging : ranges t ≡ true) where
       abbrev force : List Call → Option (Settings t)
-      force calls = held calls t .inForce
+      force calls = held p calls t .inForce
 
       module _ (before : List Call) (c : Call) where
         abbrev k : Ledger
-        k = held before
+        k = held p before
 
         abbrev Moves : Type 0
         Moves = Turn force (Sets p InForce t) (Stops p t) before c
@@ -200,29 +217,29 @@ module _ (p : Profile) where
 
         turn-force : Happened p k c → Moves
         unfolding endedBy
-        turn-force (refused e na nd) = leaves (ap (λ (m : Ledger). m t .inForce) e) (λ s. na stop (s .content) (s .accepted)) (λ x s. na configuration (s .content) (s .accepted))
-        turn-force (asked r a e) = leaves (ap (λ (m : Ledger). m t .inForce) e) (λ s. no-request-stop a (s .accepted)) (λ x s. no-request-configuration a (s .accepted))
-        turn-force (advertised d e) = leaves (ap (λ (m : Ledger). m t .inForce) e) (λ s. no-advertisement d (s .accepted)) (λ x s. no-advertisement d (s .accepted))
+        turn-force (refused x e na nd) = leaves (ap (λ (m : Ledger). m t .inForce) (left-as k e)) (λ s. na stop (s .content) (s .accepted)) (λ x s. na configuration (s .content) (s .accepted))
+        turn-force (asked r a e) = leaves (ap (λ (m : Ledger). m t .inForce) (moved k e)) (λ s. no-request-stop a (s .accepted)) (λ x s. no-request-configuration a (s .accepted))
+        turn-force (advertised d e) = leaves (ap (λ (m : Ledger). m t .inForce) (moved k e)) (λ s. no-advertisement d (s .accepted)) (λ x s. no-advertisement d (s .accepted))
         turn-force (configured r a e) = by-bool (setBy ledgerKeeps p (r .set) (r .configuration) k t)
             (λ y. inl (record {
               content = settingsIn (r .configuration) t;
               puts = ruled before c r a y;
               only = λ x s. ap (λ (q : Record). settingsIn (q .configuration) t) (same-content a (s .accepted)) ∙ s .settings;
-              now = forced-by e ∙ rw (ranging, y);
+              now = forced-by (moved k e) ∙ rw (ranging, y);
             }))
-            (λ n. leaves (ap (λ (m : Ledger). m t .inForce) e ∙ rw (ranging, n)) (λ s. no-configuration-stop a (s .accepted)) (λ x s. clash (rule before c r a x s) n))
+            (λ n. leaves (ap (λ (m : Ledger). m t .inForce) (moved k e) ∙ rw (ranging, n)) (λ s. no-configuration-stop a (s .accepted)) (λ x s. clash (rule before c r a x s) n))
         turn-force (stopped r a e) = by-bool (names (r .set) t)
             (λ y. inr (inl (record {
               drops = record { content = r; accepted = a; named = y };
               unput = λ x s. no-configuration-stop (s .accepted) a;
-              now = forced-by e ∙ gone (names (r .set) t) (k t .inForce) y;
+              now = forced-by (moved k e) ∙ gone (names (r .set) t) (k t .inForce) y;
             })))
-            (λ n. leaves (ap (λ (m : Ledger). m t .inForce) e ∙ rw n) (λ s. clash (ap (λ (q : Record). names (q .set) t) (same-content a (s .accepted)) ∙ s .named) n) (λ x s. no-configuration-stop (s .accepted) a))
+            (λ n. leaves (ap (λ (m : Ledger). m t .inForce) (moved k e) ∙ rw n) (λ s. clash (ap (λ (q : Record). names (q .set) t) (same-content a (s .accepted)) ∙ s .named) n) (λ x s. no-configuration-stop (s .accepted) a))
 
       told : (calls : List Call) (x : Settings t) → InForce calls t x ↔ LastSet p InForce t calls x
       unfolding nothing
       told calls x =
-          let h = by-history force (Sets p InForce t) (Stops p t) (λ before c. turn-force before c (happened p (held before) c)) refl calls x in (
+          let h = by-history force (Sets p InForce t) (Stops p t) (λ before c. turn-force before c (happened p (held p before) c)) refl calls x in (
             λ e. let q = h .0 e in record { before = q .before; at = q .at; later = q .later; split = q .split; set = q .puts; last = q .last; kept = q .kept },
             λ q. h .1 (record { before = q .before; at = q .at; later = q .later; split = q .split; puts = q .set; last = q .last; kept = q .kept }),
           )
@@ -235,11 +252,11 @@ module _ (p : Profile) where
       none-of false h = h
 
       stays-none : (l : Ledger) (c : Call) → l t .inForce ≡ none → Happened p l c → after l (ledgerCall p l c) t .inForce ≡ none
-      stays-none l c h (refused e na nd) = ap (λ (m : Ledger). m t .inForce) e ∙ h
-      stays-none l c h (asked r a e) = ap (λ (m : Ledger). m t .inForce) e ∙ h
-      stays-none l c h (advertised d e) = ap (λ (m : Ledger). m t .inForce) e ∙ h
-      stays-none l c h (configured r a e) = ap (λ (m : Ledger). m t .inForce) e ∙ (rw still h)
-      stays-none l c h (stopped r a e) = ap (λ (m : Ledger). m t .inForce) e ∙ none-of (endedBy ledgerKeeps p (r .set) l t) h
+      stays-none l c h (refused x e na nd) = ap (λ (m : Ledger). m t .inForce) (left-as l e) ∙ h
+      stays-none l c h (asked r a e) = ap (λ (m : Ledger). m t .inForce) (moved l e) ∙ h
+      stays-none l c h (advertised d e) = ap (λ (m : Ledger). m t .inForce) (moved l e) ∙ h
+      stays-none l c h (configured r a e) = ap (λ (m : Ledger). m t .inForce) (moved l e) ∙ (rw still h)
+      stays-none l c h (stopped r a e) = ap (λ (m : Ledger). m t .inForce) (moved l e) ∙ none-of (endedBy ledgerKeeps p (r .set) l t) h
 
       none-after : (calls : List Call) (l : Ledger) → l t .inForce ≡ none → stateAfter (ledgerCall p) l calls t .inForce ≡ none
       none-after [] l h = h
@@ -256,9 +273,6 @@ module _ (p : Profile) where
 -- ---- the words leave nothing open: two accounts that keep to them are the same
 
 module _ (p : Profile) where
-  abbrev Account : Type 1
-  Account = List Call → (t : Technology) → Settings t → Type 0
-
   abbrev Within : ℕ → Account → Account → Type 0
   Within n R S = (calls : List Call) → length calls < n → (t : Technology) (x : Settings t) → R calls t x → S calls t x
 
@@ -269,9 +283,11 @@ module _ (p : Profile) where
       at = b .at;
       since = b .since;
       split = b .split;
-      stops = b .stops;
-      settings = b .settings;
-      ranged = back (b .before) (omega (arith, l, ap length (b .split), length-append (b .before) (b .at ∷ b .since))) t (b .settings) (b .ranged);
+      ends = record {
+        stops = b .ends .stops;
+        settings = b .ends .settings;
+        ranged = back (b .before) (omega (arith, l, ap length (b .split), length-append (b .before) (b .at ∷ b .since))) t (b .ends .settings) (b .ends .ranged);
+      };
       withheld = b .withheld;
     }
 
@@ -333,12 +349,3 @@ module _ (p : Profile) where
         λ h. sets-same (InForce p) R (length calls) (q .0) (q .1) t calls c x l (ruled p t calls c r a (sym k ∙ h)),
         λ s. k ∙ rule p t calls c r a x (sets-same R (InForce p) (length calls) (q .1) (q .0) t calls c x l s),
       )
-
--- ---- demand 3 in the customer's words, of every list of calls from an accepted start and every account that keeps to the words
-
-module _ (r : Record) (n : ℕ) where
-  pub demand-3-in-words : (x : Started) → x ≡ started (profileOf r n) → x .refusal ≡ 0 → (events : List Event) (e : Session) → Ran (x .session) events e → (R : Account (profile r n)) → Words (profile r n) R → (t : Technology) (y : Settings t) → (inForceIn e t ≡ some y) ↔ R (callsOf events) t y
-  demand-3-in-words x h z events e ran R w t y =
-      let k = demand-3 r n x h z events e ran .ranging t in
-      let q = words-decide (profile r n) (InForce (profile r n)) R (in-words (profile r n)) w (callsOf events) t y in
-      (λ i. q .0 (sym k ∙ i), λ i. k ∙ q .1 i)

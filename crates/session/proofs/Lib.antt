@@ -1,7 +1,9 @@
 pub mod SetLaws
 pub mod Steps
 pub mod Simulation
-pub mod Demand3
+pub mod Lists
 pub mod Last
 pub mod Happened
 pub mod InWords
+pub mod Reported
+pub mod Demand3

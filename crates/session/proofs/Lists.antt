@@ -1,62 +1,123 @@
--- Demand 3 over every list of calls that keep their contracts, from the session that an accepted start returned.
+-- A list of calls from a fresh session: answers and buffers are the ledger's, and the session record is what the ledger holds.
 use Prim.Native.Nat.{ℕ}
-use mathlib.Core.Path.{_≡_, refl, sym, ap, fun-ext, _∙_}
+use mathlib.Core.Path.{_≡_, refl, sym, ap, subst, fun-ext, _∙_}
 use mathlib.Core.List.{List, [], _∷_, map}
-use mathlib.Core.Bool.{Bool, true, false, _&&_}
-use lib.Dec.{eqb, ltb, leb}
+use mathlib.Core.Option.{none, some}
+use mathlib.Core.Bool.{Bool, true, false, cond}
+use lib.Dec.{leb}
 use lib.ListN.{length}
 use Rattle.codec.specs.Refusal.{Checked, refuse, accept, demand, andThen, bufferTooShort, notValid}
-use Rattle.codec.specs.Records.{capabilities, configurations}
-use Rattle.codec.specs.Message.{assigned, reading}
-use Rattle.codec.specs.Valid.{setIn, validColumn, valid}
+use Rattle.codec.specs.Message.{reading}
+use Rattle.codec.specs.declared.records.Configuration.{Configuration}
 use Rattle.codec.specs.declared.records.Record.{Record}
-use Rattle.codec.proofs.Outcomes.{by-bool, and-true, no-zero}
-use Rattle.codec.proofs.ValidCases.{response-valid}
 use Rattle.session.specs.declared.state.Profile.{Profile}
+use Rattle.session.specs.declared.state.UwbState.{UwbState}
+use Rattle.session.specs.declared.state.NanState.{NanState}
+use Rattle.session.specs.declared.state.RssiState.{RssiState}
 use Rattle.session.specs.declared.state.Session.{Session}
-use Rattle.session.specs.declared.state.Started.{Started}
-use Rattle.session.specs.Technology.{Technology, uwb, cs, nan, rssi}
-use Rattle.session.specs.Rules.{Call, message, advertisement, lent, Kind, request, configuration, stop, other, kindOf, octetsOf, validProfile, Served, conclude, after, serve, call, answerTo, bufferAfter}
+use Rattle.session.specs.Technology.{Technology, uwb, cs, nan, rssi, names}
+use Rattle.session.specs.Rules.{Call, message, advertisement, lent, Kind, request, configuration, stop, other, kindOf, octetsOf, validProfile, shows, Served, conclude, after, giveOut, configure, setBy, endedBy, halt, serve, call, answerTo, bufferAfter}
 use Rattle.session.specs.Ledger.{Ledger, nothing, ledgerKeeps, ledgerCall, Seen, seenFrom, stateAfter}
-use Rattle.session.specs.Session.{inForceIn, markIn, sessionKeeps, sessionCall, fresh, profileOf, started}
-use Rattle.session.specs.Trace.{Event, seenOf, Ran, callsOf, Kept}
-use Rattle.session.proofs.Steps.{fits, start-refused, start-accepted}
-use Rattle.session.proofs.Simulation.{through, call-through, ledgerOf, session-follows}
+use Rattle.session.specs.Session.{yes, inForceIn, markIn, uwbPart, nanPart, rssiPart, sessionKeeps, sessionCall, Does, fresh}
+use Rattle.session.specs.Trace.{Event, seenOf, Ran, callsOf}
+use Rattle.session.specs.Demand3.{sessionOf}
+use Rattle.session.proofs.Simulation.{through, call-through, ledgerOf, uwbForce, nanForce, rssiForce, session-follows}
 
--- ---- a session's profile stays
+-- ---- what every change of a session keeps, every call keeps
 
-abbrev Of : Profile → Checked (Served Session) → Type 0
-Of p (refuse x) = Unit {0}
-Of p (accept v) = v .state .profile ≡ p
+module _ (P : Session → Type 0) (give : (has : Technology → Bool) (s : Session) → P s → P (sessionKeeps .give has s))
+    (put : (isSet : Technology → Bool) (c : Configuration) (s : Session) → P s → P (sessionKeeps .put isSet c s)) (end : (ended : Technology → Bool) (s : Session) → P s → P (sessionKeeps .stop ended s)) where
+  abbrev Of : Checked (Served Session) → Type 0
+  Of (refuse x) = Unit {0}
+  Of (accept v) = P (v .state)
 
-concluded : (p : Profile) (b : List ℕ) (v : Served Session) → v .state .profile ≡ p → Of p (conclude b v)
-unfolding conclude
-concluded p b v h = go (leb (length (octetsOf (v .reply))) (length b))
-  where
-    go : (t : Bool) → Of p (demand t bufferTooShort (accept v))
-    go true = h
-    go false = tt
-
-module _ (p : Profile) (s : Session) (h : s .profile ≡ p) where
-  served-keeps : (k : Kind) (r : Record) (b : List ℕ) → Of p (serve sessionKeeps (s .profile) k r s b)
-  unfolding serve
-  served-keeps request r b = concluded p b _ h
-  served-keeps configuration r b = concluded p b _ h
-  served-keeps stop r b = concluded p b _ h
-  served-keeps other r b = tt
-
-  call-keeps : (c : Call) → Of p (call sessionKeeps (s .profile) s c)
-  unfolding call
-  call-keeps (message m b) = go (reading m)
+  concluded : (b : List ℕ) (v : Served Session) → P (v .state) → Of (conclude b v)
+  unfolding conclude
+  concluded b v h = go (leb (length (octetsOf (v .reply))) (length b))
     where
-      go : (o : Checked Record) → Of p (andThen o λ r. serve sessionKeeps (s .profile) (kindOf (r .id)) r s b)
-      go (refuse x) = tt
-      go (accept r) = served-keeps (kindOf (r .id)) r b
-  call-keeps (advertisement b) = concluded p b _ h
+      go : (t : Bool) → Of (demand t bufferTooShort (accept v))
+      go true = h
+      go false = tt
 
-  after-keeps : (o : Checked (Served Session)) → Of p o → after s o .profile ≡ p
-  after-keeps (refuse x) k = h
-  after-keeps (accept v) k = k
+  module _ (s : Session) (h : P s) where
+    served-keeps : (k : Kind) (r : Record) (b : List ℕ) → Of (serve sessionKeeps (s .profile) k r s b)
+    unfolding serve
+    served-keeps request r b = concluded b (giveOut sessionKeeps (s .profile) (names (r .set)) s) (give (shows (s .profile) (names (r .set))) s h)
+    served-keeps configuration r b = concluded b (configure sessionKeeps (s .profile) (r .set) (r .configuration) s) (put (setBy sessionKeeps (s .profile) (r .set) (r .configuration) s) (r .configuration) s h)
+    served-keeps stop r b = concluded b (halt sessionKeeps (s .profile) (r .set) s) (end (endedBy sessionKeeps (s .profile) (r .set) s) s h)
+    served-keeps other r b = tt
+
+    call-keeps : (c : Call) → Of (call sessionKeeps (s .profile) s c)
+    unfolding call
+    call-keeps (message m b) = go (reading m)
+      where
+        go : (o : Checked Record) → Of (andThen o λ r. serve sessionKeeps (s .profile) (kindOf (r .id)) r s b)
+        go (refuse x) = tt
+        go (accept r) = served-keeps (kindOf (r .id)) r b
+    call-keeps (advertisement b) = concluded b (giveOut sessionKeeps (s .profile) (λ t. true) s) (give (shows (s .profile) (λ t. true)) s h)
+
+    after-keeps : (o : Checked (Served Session)) → Of o → P (after s o)
+    after-keeps (refuse x) k = h
+    after-keeps (accept v) k = k
+
+    kept : (c : Call) → P (after s (sessionCall s c))
+    unfolding sessionCall
+    kept c = go (validProfile (s .profile))
+      where
+        go : (t : Bool) → P (after s (demand t notValid (call sessionKeeps (s .profile) s c)))
+        go true = after-keeps (call sessionKeeps (s .profile) s c) (call-keeps c)
+        go false = h
+
+-- ---- a session record that is what its ledger holds: flags of 0 or 1, and zero settings where nothing ranges
+
+abbrev Flag : ℕ → Type 0
+Flag m = m ≡ cond (yes m) 1 0
+
+abbrev UwbTidy : UwbState → Type 0
+UwbTidy u = u ≡ uwbPart (uwbForce u)
+
+abbrev NanTidy : NanState → Type 0
+NanTidy u = u ≡ nanPart (nanForce u)
+
+abbrev RssiTidy : RssiState → Type 0
+RssiTidy u = u ≡ rssiPart (rssiForce u)
+
+pub record Tidy (p : Profile) (s : Session) : Type 0 where
+  pub profile : s .profile ≡ p
+  pub uwb : UwbTidy (s .uwb)
+  pub nan : NanTidy (s .nan)
+  pub rssi : RssiTidy (s .rssi)
+  pub mark : Flag (s .mark)
+
+either : {A : Type 0} (P : A → Type 0) (b : Bool) (x y : A) → P x → P y → P (cond b x y)
+either P true x y h k = h
+either P false x y h k = k
+
+module _ (p : Profile) where
+  pub fresh-tidy : Tidy p (fresh p)
+  fresh-tidy = record { profile = refl; uwb = refl; nan = refl; rssi = refl; mark = refl }
+
+  tidy-call : (s : Session) → Tidy p s → (c : Call) → Tidy p (after s (sessionCall s c))
+  tidy-call = kept (Tidy p)
+      (λ has s h. record { profile = h .profile; uwb = h .uwb; nan = h .nan; rssi = h .rssi; mark = either Flag (has uwb) 0 (s .mark) refl (h .mark) })
+      (λ isSet c s h. record {
+        profile = h .profile;
+        uwb = either UwbTidy (isSet uwb) (uwbPart (some (c .uwb))) (s .uwb) refl (h .uwb);
+        nan = either NanTidy (isSet nan) (nanPart (some (c .nan))) (s .nan) refl (h .nan);
+        rssi = either RssiTidy (isSet rssi) (rssiPart (some (c .rssi))) (s .rssi) refl (h .rssi);
+        mark = h .mark;
+      })
+      (λ ended s h. record {
+        profile = h .profile;
+        uwb = either UwbTidy (ended uwb) (uwbPart none) (s .uwb) refl (h .uwb);
+        nan = either NanTidy (ended nan) (nanPart none) (s .nan) refl (h .nan);
+        rssi = either RssiTidy (ended rssi) (rssiPart none) (s .rssi) refl (h .rssi);
+        mark = either Flag (ended uwb) 1 (s .mark) refl (h .mark);
+      })
+
+  pub tidy-is : (s : Session) → Tidy p s → s ≡ sessionOf p (ledgerOf s)
+  unfolding ledgerOf inForceIn markIn
+  tidy-is s h = λ i. record { profile = h .profile i; uwb = h .uwb i; nan = h .nan i; rssi = h .rssi i; mark = h .mark i }
 
 -- ---- one call
 
@@ -65,10 +126,7 @@ module _ (p : Profile) (v : validProfile p ≡ true) (s : Session) (h : s .profi
   unfolding sessionCall
   valid-call = rw (ap validProfile h ∙ v)
 
-  pub next-profile : after s (sessionCall s c) .profile ≡ p
-  next-profile = ap (λ (o : Checked (Served Session)). after s o .profile) valid-call ∙ after-keeps p s h (call sessionKeeps (s .profile) s c) (call-keeps p s h c)
-
-  pub same-call : through ledgerOf (sessionCall s c) ≡ ledgerCall p (ledgerOf s) c
+  same-call : through ledgerOf (sessionCall s c) ≡ ledgerCall p (ledgerOf s) c
   same-call =
       ap (through ledgerOf) valid-call
       ∙ (call-through ledgerOf sessionKeeps ledgerKeeps session-follows (s .profile) s c
@@ -90,26 +148,33 @@ module _ (s : Session) where
 -- ---- a list of calls
 
 module _ (p : Profile) (v : validProfile p ≡ true) where
-  answers-kept : (events : List Event) (s e : Session) → s .profile ≡ p → Ran s events e → map seenOf events ≡ seenFrom (ledgerCall p) (ledgerOf s) (callsOf events)
+  module _ (s : Session) (h : Tidy p s) (x : Event) (g : Does s (x .given) (x .step .answer) (x .step .session) (x .left)) where
+    next-tidy : Tidy p (x .step .session)
+    next-tidy = subst (Tidy p) (sym (g .session)) (tidy-call p s h (x .given))
+
+    next-ledger : ledgerOf (x .step .session) ≡ after (ledgerOf s) (ledgerCall p (ledgerOf s) (x .given))
+    next-ledger = ap ledgerOf (g .session) ∙ (sym (after-through s (sessionCall s (x .given))) ∙ ap (λ (o : Checked (Served Ledger)). after (ledgerOf s) o) (same-call p v s (h .profile) (x .given)))
+
+    seen : seenOf x ≡ record { answer = answerTo (ledgerCall p (ledgerOf s) (x .given)); buffer = bufferAfter (ledgerCall p (ledgerOf s) (x .given)) (lent (x .given)) }
+    seen = let o = sessionCall s (x .given) in rw (← same-call p v s (h .profile) (x .given), answer-through s o, buffer-through s o (lent (x .given)), ← g .answer, ← g .buffer)
+
+  pub answers-kept : (events : List Event) (s e : Session) → Tidy p s → Ran s events e → map seenOf events ≡ seenFrom (ledgerCall p) (ledgerOf s) (callsOf events)
   answers-kept [] s e h r = refl
   answers-kept (x ∷ events) s e h r =
-      let o = sessionCall s (x .given) in
-      let g = r .0 in
-      let k = answers-kept events (x .step .session) e (ap (λ (y : Session). y .profile) (g .session) ∙ next-profile p v s h (x .given)) (r .1) in
-      rw (← same-call p v s h (x .given), answer-through s o, buffer-through s o (lent (x .given)), after-through s o, ← g .session, ← g .answer, ← g .buffer)
-      (ap (λ (l : List Seen). seenOf x ∷ l) k)
+      let k = answers-kept events (x .step .session) e (next-tidy s h x (r .0)) (r .1) in
+      λ i. seen s h x (r .0) i ∷ (k ∙ ap (λ (l : Ledger). seenFrom (ledgerCall p) l (callsOf events)) (next-ledger s h x (r .0))) i
 
-  ranging-kept : (events : List Event) (s e : Session) → s .profile ≡ p → Ran s events e → ledgerOf e ≡ stateAfter (ledgerCall p) (ledgerOf s) (callsOf events)
-  ranging-kept [] s e h r = ap ledgerOf (sym r)
-  ranging-kept (x ∷ events) s e h r =
-      let g = r .0 in
-      let k = ranging-kept events (x .step .session) e (ap (λ (y : Session). y .profile) (g .session) ∙ next-profile p v s h (x .given)) (r .1) in
-      let q = ap ledgerOf (g .session) ∙ (sym (after-through s (sessionCall s (x .given))) ∙ ap (λ (o : Checked (Served Ledger)). after (ledgerOf s) o) (same-call p v s h (x .given))) in
-      k ∙ ap (λ (l : Ledger). stateAfter (ledgerCall p) l (callsOf events)) q
+  pub ledger-kept : (events : List Event) (s e : Session) → Tidy p s → Ran s events e → ledgerOf e ≡ stateAfter (ledgerCall p) (ledgerOf s) (callsOf events)
+  ledger-kept [] s e h r = ap ledgerOf (sym r)
+  ledger-kept (x ∷ events) s e h r = ledger-kept events (x .step .session) e (next-tidy s h x (r .0)) (r .1) ∙ ap (λ (l : Ledger). stateAfter (ledgerCall p) l (callsOf events)) (next-ledger s h x (r .0))
+
+  pub tidy-kept : (events : List Event) (s e : Session) → Tidy p s → Ran s events e → Tidy p e
+  tidy-kept [] s e h r = subst (Tidy p) r h
+  tidy-kept (x ∷ events) s e h r = tidy-kept events (x .step .session) e (next-tidy s h x (r .0)) (r .1)
 
 -- ---- the start
 
-fresh-blank : (p : Profile) → ledgerOf (fresh p) ≡ nothing
+pub fresh-blank : (p : Profile) → ledgerOf (fresh p) ≡ nothing
 unfolding ledgerOf inForceIn markIn nothing
 fresh-blank p = fun-ext go
   where
@@ -118,38 +183,3 @@ fresh-blank p = fun-ext go
     go cs = refl
     go nan = refl
     go rssi = refl
-
-in-force : (s : Session) (t : Technology) → inForceIn s t ≡ ledgerOf s t .inForce
-unfolding ledgerOf
-in-force s t = refl
-
-module _ (r : Record) (n : ℕ) where
-  abbrev pub profile : Profile
-  profile = record { set = r .set; replies = n; capability = r .capability }
-
-  profile-valid : fits r n ≡ true → validProfile profile ≡ true
-  unfolding validProfile valid
-  profile-valid h =
-      let a = and-true (eqb (r .id) 1 && valid r) (ltb n 3) h in
-      let b = and-true (eqb (r .id) 1) (valid r) (a .0) in
-      let c = rw (b .0) at (and-true (assigned (r .id)) (ltb (r .set) 16 && (validColumn capabilities (setIn 1 r) (r .capability) && validColumn configurations (setIn 2 r) (r .configuration))) (b .1) .1) in
-      let d = and-true (ltb (r .set) 16) _ c in
-      rw (response-valid (r .set) (r .capability), d .0, and-true (validColumn capabilities (r .set) (r .capability)) _ (d .1) .0, a .1)
-
-  -- each answer, each buffer and what ranges in the end are the ledger's
-  pub demand-3 : (x : Started) → x ≡ started (profileOf r n) → x .refusal ≡ 0 → (events : List Event) (e : Session) → Ran (x .session) events e → Kept profile events e
-  demand-3 x h z events e ran = by-bool (fits r n) yes no
-    where
-      no : fits r n ≡ false → Kept profile events e
-      no f = absurd (no-zero notValid (sym (ap (λ (y : Started). y .refusal) (h ∙ ap started (start-refused r n f))) ∙ z))
-
-      yes : fits r n ≡ true → Kept profile events e
-      yes t =
-          let k = ap (λ (y : Started). y .session) (h ∙ ap started (start-accepted r n t)) in
-          let v = profile-valid t in
-          let b = ap ledgerOf k ∙ fresh-blank profile in
-          let q = ap (λ (y : Session). y .profile) k in
-          record {
-            answers = rw b at (answers-kept profile v events (x .session) e q ran);
-            ranging = λ t. in-force e t ∙ ap (λ (l : Ledger). l t .inForce) (rw b at (ranging-kept profile v events (x .session) e q ran));
-          }

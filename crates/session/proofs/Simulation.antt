@@ -21,7 +21,7 @@ use Rattle.session.specs.declared.state.Session.{Session}
 use Rattle.session.specs.Technology.{Technology, uwb, cs, nan, rssi, names}
 use Rattle.session.specs.Rules.{Call, message, advertisement, Kind, request, configuration, stop, other, kindOf, octetsOf, sets, Served, conclude, Keeps, giveOut, setBy, endedBy, serve, call}
 use Rattle.session.specs.Ledger.{Ledger, isSome, ledgerKeeps}
-use Rattle.session.specs.Session.{yes, inForceIn, rangingIn, markIn, noUwb, noNan, noRssi, sessionKeeps}
+use Rattle.session.specs.Session.{yes, inForceIn, rangingIn, markIn, uwbPart, nanPart, rssiPart, sessionKeeps}
 
 -- ---- a state read as another: what is asked of both agrees, and each change goes through
 
@@ -106,13 +106,13 @@ none-either true = refl
 none-either false = refl
 
 -- the settings in force of each technology's part of the session
-abbrev uwbForce : UwbState → Option UwbConfiguration
+abbrev pub uwbForce : UwbState → Option UwbConfiguration
 uwbForce u = cond (yes (u .ranging)) (some (u .settings)) none
 
-abbrev nanForce : NanState → Option NanConfiguration
+abbrev pub nanForce : NanState → Option NanConfiguration
 nanForce u = cond (yes (u .ranging)) (some (u .settings)) none
 
-abbrev rssiForce : RssiState → Option Rssi
+abbrev pub rssiForce : RssiState → Option Rssi
 rssiForce u = cond (yes (u .ranging)) (some (u .settings)) none
 
 module _ (s : Session) where
@@ -125,17 +125,17 @@ module _ (s : Session) where
 
   put-cell : (isSet : Technology → Bool) (c : Configuration) (t : Technology) → ledgerOf (sessionKeeps .put isSet c s) t ≡ ledgerKeeps .put isSet c (ledgerOf s) t
   unfolding ledgerOf inForceIn markIn
-  put-cell isSet c uwb = λ i. record { inForce = cond-map uwbForce (isSet uwb) (record { ranging = 1; settings = c .uwb }) (s .uwb) i; mark = yes (s .mark) }
+  put-cell isSet c uwb = λ i. record { inForce = cond-map uwbForce (isSet uwb) (uwbPart (some (c .uwb))) (s .uwb) i; mark = yes (s .mark) }
   put-cell isSet c cs = refl
-  put-cell isSet c nan = λ i. record { inForce = cond-map nanForce (isSet nan) (record { ranging = 1; settings = c .nan }) (s .nan) i; mark = false }
-  put-cell isSet c rssi = λ i. record { inForce = cond-map rssiForce (isSet rssi) (record { ranging = 1; settings = c .rssi }) (s .rssi) i; mark = false }
+  put-cell isSet c nan = λ i. record { inForce = cond-map nanForce (isSet nan) (nanPart (some (c .nan))) (s .nan) i; mark = false }
+  put-cell isSet c rssi = λ i. record { inForce = cond-map rssiForce (isSet rssi) (rssiPart (some (c .rssi))) (s .rssi) i; mark = false }
 
   stop-cell : (ended : Technology → Bool) (t : Technology) → ledgerOf (sessionKeeps .stop ended s) t ≡ ledgerKeeps .stop ended (ledgerOf s) t
   unfolding ledgerOf inForceIn markIn
-  stop-cell ended uwb = λ i. record { inForce = cond-map uwbForce (ended uwb) noUwb (s .uwb) i; mark = ended-mark (ended uwb) (s .mark) i }
+  stop-cell ended uwb = λ i. record { inForce = cond-map uwbForce (ended uwb) (uwbPart none) (s .uwb) i; mark = ended-mark (ended uwb) (s .mark) i }
   stop-cell ended cs = λ i. record { inForce = none-either (ended cs) i; mark = false }
-  stop-cell ended nan = λ i. record { inForce = cond-map nanForce (ended nan) noNan (s .nan) i; mark = false }
-  stop-cell ended rssi = λ i. record { inForce = cond-map rssiForce (ended rssi) noRssi (s .rssi) i; mark = false }
+  stop-cell ended nan = λ i. record { inForce = cond-map nanForce (ended nan) (nanPart none) (s .nan) i; mark = false }
+  stop-cell ended rssi = λ i. record { inForce = cond-map rssiForce (ended rssi) (rssiPart none) (s .rssi) i; mark = false }
 
 pub session-follows : Follows sessionKeeps ledgerKeeps ledgerOf
 unfolding ledgerOf

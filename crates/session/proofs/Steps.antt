@@ -28,7 +28,7 @@ use Rattle.session.specs.declared.state.Answer.{Answer}
 use Rattle.session.specs.declared.state.Step.{Step}
 use Rattle.session.specs.Technology.{Technology, uwb, cs, nan, rssi, among, names, setOf}
 use Rattle.session.specs.Rules.{validProfile, Call, message, advertisement, Kind, request, configuration, stop, other, kindOf, octetsOf, replied, shows, capabilityReply, Served, conclude, giveOut, configure, setBy, endedBy, halt, serve, call, after, answerTo}
-use Rattle.session.specs.Session.{yes, rangingIn, sessionKeeps, sessionCall, Gives, profileOf}
+use Rattle.session.specs.Session.{yes, rangingIn, sessionKeeps, sessionCall, Gives, asProfile, profileOf}
 use Rattle.session.specs.Replies.{inBoth, delivery, Delivers, settle, Answers}
 use Rattle.session.proofs.SetLaws.{set-below, names-set}
 
@@ -235,12 +235,12 @@ module _ (r : Record) (n : ℕ) where
   unfolding profileOf
   start-refused = go (eqb (r .id) 1 && valid r) (ltb n 3)
     where
-      go : (x y : Bool) → (x && y) ≡ false → demand {A = Profile} x notValid (demand y notValid (accept (record { set = r .set; replies = n; capability = r .capability }))) ≡ refuse notValid
+      go : (x y : Bool) → (x && y) ≡ false → demand {A = Profile} x notValid (demand y notValid (accept (asProfile r n))) ≡ refuse notValid
       go true true e = absurd (true≢false e)
       go true false e = refl
       go false y e = refl
 
-  pub start-accepted : fits ≡ true → profileOf r n ≡ accept (record { set = r .set; replies = n; capability = r .capability })
+  pub start-accepted : fits ≡ true → profileOf r n ≡ accept (asProfile r n)
   unfolding profileOf
   start-accepted h = let x = and-true (eqb (r .id) 1 && valid r) (ltb n 3) h in rw (x .0, x .1)
 

@@ -8,12 +8,17 @@ use mathlib.Core.Bool.{true, false, cond}
 use lib.ListN.{length}
 use Rattle.codec.specs.Refusal.{Checked, refuse, accept}
 use Rattle.codec.specs.Message.{reading}
-use Rattle.codec.specs.NormalForm.{normal}
-use Rattle.codec.specs.WellFormed.{Each}
+use Rattle.codec.specs.WellFormed.{Each, Has}
+use Rattle.codec.specs.NormalForm.{blocksOf, normal}
 use Rattle.codec.specs.declared.records.Record.{Record}
 use Rattle.session.specs.declared.state.Profile.{Profile}
-use Rattle.session.specs.Technology.{Technology, Settings, settingsIn, capabilityIn, names, ranges, bars, within}
+use Rattle.session.specs.declared.state.Answer.{Answer}
+use Rattle.session.specs.Technology.{Technology, idOf, Settings, settingsIn, capabilityIn, names, ranges, bars, within}
 use Rattle.session.specs.Rules.{Call, message, advertisement, lent, Kind, request, configuration, stop, other, kindOf, explicit, capabilityReply}
+
+-- an account of what ranges, with which settings, after each list of calls
+abbrev pub Account : Type 1
+Account = List Call → (t : Technology) → Settings t → Type 0
 
 -- ---- accepted calls
 
@@ -54,27 +59,27 @@ module _ (p : Profile) where
     pub accepted : Accepted stop c content
     pub named : names (content .set) t ≡ true
 
-  -- its capabilities are given out: in reply to a Request naming it, or by an advertisement
-  pub record Asked (t : Technology) (c : Call) : Type 0 where
-    pub content : Record
-    pub accepted : Accepted request c content
-    pub named : names (content .set) t ≡ true
+  -- its capabilities are given out: what is written holds its block, in reply to a Request or as an advertisement
+  pub data GivesOut (t : Technology) (c : Call) : Type 0 where
+    inReply : (r : Record) → Accepted request c r → Has (idOf t) (blocksOf (capabilityReply p (names (r .set)))) → GivesOut t c
+    inAdvertisement : Advertised c → Has (idOf t) (blocksOf (capabilityReply p (λ t. true))) → GivesOut t c
 
-  abbrev pub GivesOut : Technology → Call → Type 0
-  GivesOut t c = (names (p .set) t ≡ true) × (Asked t c ⊎ Advertised c)
+  -- ---- the words, of any account
 
-  -- ---- the words, of any account of what ranges with which settings after each list of calls
+  module _ (Ranges : Account) where
+    -- a Stop that comes after these calls ends its ranging: an accepted Stop names it while it ranges
+    pub record Ends (t : Technology) (calls : List Call) (c : Call) : Type 0 where
+      pub stops : Stops t c
+      pub settings : Settings t
+      pub ranged : Ranges calls t settings
 
-  module _ (Ranges : List Call → (t : Technology) → Settings t → Type 0) where
     -- a Stop among the calls has ended its ranging, and its capabilities were not given out since
     pub record Barred (t : Technology) (calls : List Call) : Type 0 where
       pub before : List Call
       pub at : Call
       pub since : List Call
       pub split : calls ≡ before ++ at ∷ since
-      pub stops : Stops t at
-      pub settings : Settings t
-      pub ranged : Ranges before t settings
+      pub ends : Ends t before at
       pub withheld : Each (λ c. GivesOut t c → ⊥) since
 
     -- a call that comes after these sets it: an accepted Configuration that names it, and the profile has it, with settings
@@ -101,3 +106,8 @@ module _ (p : Profile) where
     pub record Words : Type 0 where
       pub told : (t : Technology) → ranges t ≡ true → (calls : List Call) (x : Settings t) → Ranges calls t x ↔ LastSet t calls x
       pub never : (t : Technology) → ranges t ≡ false → (calls : List Call) (x : Settings t) → Ranges calls t x → ⊥
+
+    -- an answer names as set exactly what its call sets, and as stopped exactly what its call ends
+    pub record Reports (calls : List Call) (c : Call) (a : Answer) : Type 0 where
+      pub set : (t : Technology) → (names (a .set) t ≡ true) ↔ ((x : Settings t) × Sets t calls c x)
+      pub stopped : (t : Technology) → (names (a .stopped) t ≡ true) ↔ Ends t calls c

@@ -4,4 +4,5 @@ pub mod Ledger
 pub mod History
 pub mod Session
 pub mod Trace
+pub mod Demand3
 pub mod Replies

@@ -8,16 +8,20 @@ use lib.Dec.{eqb, ltb}
 use Rattle.codec.specs.Refusal.{Checked, refuse, accept, demand, numberOf, notValid}
 use Rattle.codec.specs.Records.{capabilities, configurations, blank}
 use Rattle.codec.specs.Valid.{valid}
+use Rattle.codec.specs.declared.uwb.UwbConfiguration.{UwbConfiguration}
+use Rattle.codec.specs.declared.nan.NanConfiguration.{NanConfiguration}
+use Rattle.codec.specs.declared.rssi.Rssi.{Rssi}
 use Rattle.codec.specs.declared.records.Record.{Record}
 use Rattle.session.specs.declared.state.Profile.{Profile}
 use Rattle.session.specs.declared.state.UwbState.{UwbState}
 use Rattle.session.specs.declared.state.NanState.{NanState}
 use Rattle.session.specs.declared.state.RssiState.{RssiState}
 use Rattle.session.specs.declared.state.Session.{Session}
+use Rattle.session.specs.declared.state.Answer.{Answer}
 use Rattle.session.specs.declared.state.Step.{Step}
 use Rattle.session.specs.declared.state.Started.{Started}
 use Rattle.session.specs.Technology.{Technology, uwb, cs, nan, rssi, Settings}
-use Rattle.session.specs.Rules.{Call, validProfile, Served, Keeps, call, after, answerTo, bufferAfter}
+use Rattle.session.specs.Rules.{Call, lent, validProfile, Served, Keeps, call, after, answerTo, bufferAfter}
 
 -- a flag is a number: 0 no, anything else yes
 abbrev pub yes : ℕ → Bool
@@ -43,15 +47,18 @@ markIn s cs = false
 markIn s nan = false
 markIn s rssi = false
 
--- a technology that is not ranging has zero settings
-abbrev pub noUwb : UwbState
-noUwb = record { ranging = 0; settings = blank configurations .uwb }
+-- what the record holds of a technology: its settings in force, and zero settings where it is not ranging
+abbrev pub uwbPart : Option UwbConfiguration → UwbState
+uwbPart none = record { ranging = 0; settings = blank configurations .uwb }
+uwbPart (some x) = record { ranging = 1; settings = x }
 
-abbrev pub noNan : NanState
-noNan = record { ranging = 0; settings = blank configurations .nan }
+abbrev pub nanPart : Option NanConfiguration → NanState
+nanPart none = record { ranging = 0; settings = blank configurations .nan }
+nanPart (some x) = record { ranging = 1; settings = x }
 
-abbrev pub noRssi : RssiState
-noRssi = record { ranging = 0; settings = blank configurations .rssi }
+abbrev pub rssiPart : Option Rssi → RssiState
+rssiPart none = record { ranging = 0; settings = blank configurations .rssi }
+rssiPart (some x) = record { ranging = 1; settings = x }
 
 abbrev pub sessionKeeps : Keeps Session
 sessionKeeps = record {
@@ -60,16 +67,16 @@ sessionKeeps = record {
   give = λ has s. record { profile = s .profile; uwb = s .uwb; nan = s .nan; rssi = s .rssi; mark = cond (has uwb) 0 (s .mark) };
   put = λ isSet c s. record {
     profile = s .profile;
-    uwb = cond (isSet uwb) (record { ranging = 1; settings = c .uwb }) (s .uwb);
-    nan = cond (isSet nan) (record { ranging = 1; settings = c .nan }) (s .nan);
-    rssi = cond (isSet rssi) (record { ranging = 1; settings = c .rssi }) (s .rssi);
+    uwb = cond (isSet uwb) (uwbPart (some (c .uwb))) (s .uwb);
+    nan = cond (isSet nan) (nanPart (some (c .nan))) (s .nan);
+    rssi = cond (isSet rssi) (rssiPart (some (c .rssi))) (s .rssi);
     mark = s .mark;
   };
   stop = λ ended s. record {
     profile = s .profile;
-    uwb = cond (ended uwb) noUwb (s .uwb);
-    nan = cond (ended nan) noNan (s .nan);
-    rssi = cond (ended rssi) noRssi (s .rssi);
+    uwb = cond (ended uwb) (uwbPart none) (s .uwb);
+    nan = cond (ended nan) (nanPart none) (s .nan);
+    rssi = cond (ended rssi) (rssiPart none) (s .rssi);
     mark = cond (ended uwb) 1 (s .mark);
   };
 }
@@ -84,21 +91,28 @@ pub record Gives (s : Session) (o : Checked (Served Session)) (before : List ℕ
   pub answer : r .answer ≡ answerTo o
   pub buffer : e ≡ bufferAfter o before
 
+-- what a call does that gets the session s: its answer, the session that it returns or leaves, and what it leaves in its buffer
+abbrev pub Does : Session → Call → Answer → Session → List ℕ → Type 0
+Does s c answer next left = Gives s (sessionCall s c) (lent c) (record { session = next; answer = answer }) left
+
 -- ---- the start
 
 -- a fresh session ranges with nothing
 abbrev pub fresh : Profile → Session
-fresh p = record { profile = p; uwb = noUwb; nan = noNan; rssi = noRssi; mark = 0 }
+fresh p = record { profile = p; uwb = uwbPart none; nan = nanPart none; rssi = rssiPart none; mark = 0 }
 
 abbrev pub emptyProfile : Profile
 emptyProfile = record { set = 0; replies = 0; capability = blank capabilities }
+
+abbrev pub asProfile : Record → ℕ → Profile
+asProfile r replies = record { set = r .set; replies = replies; capability = r .capability }
 
 -- a profile is a valid record of message 1 with one of the three reply choices
 unfoldable pub profileOf : Record → ℕ → Checked Profile
 profileOf r replies =
     demand (eqb (r .id) 1 && valid r) notValid
     (demand (ltb replies 3) notValid
-    (accept (record { set = r .set; replies = replies; capability = r .capability })))
+    (accept (asProfile r replies)))
 
 -- a refused start returns a fresh session with an empty profile, replies not said
 abbrev pub started : Checked Profile → Started

@@ -2,13 +2,11 @@
 use Prim.Native.Nat.{ℕ}
 use mathlib.Core.Path.{_≡_}
 use mathlib.Core.List.{List, [], _∷_, map}
-use Rattle.session.specs.declared.state.Profile.{Profile}
 use Rattle.session.specs.declared.state.Session.{Session}
 use Rattle.session.specs.declared.state.Step.{Step}
-use Rattle.session.specs.Technology.{Technology}
-use Rattle.session.specs.Rules.{Call, lent}
-use Rattle.session.specs.Ledger.{nothing, ledgerCall, Seen, seenFrom, stateAfter}
-use Rattle.session.specs.Session.{inForceIn, sessionCall, Gives}
+use Rattle.session.specs.Rules.{Call}
+use Rattle.session.specs.Ledger.{Seen}
+use Rattle.session.specs.Session.{Does}
 
 pub record Event : Type 0 where
   pub given : Call
@@ -21,12 +19,7 @@ seenOf x = record { answer = x .step .answer; buffer = x .left }
 -- each call gets the session that the one before returned or left, and keeps its contract; `e` is the last session
 abbrev pub Ran : Session → List Event → Session → Type 0
 Ran s [] e = s ≡ e
-Ran s (x ∷ events) e = Gives s (sessionCall s (x .given)) (lent (x .given)) (x .step) (x .left) × Ran (x .step .session) events e
+Ran s (x ∷ events) e = Does s (x .given) (x .step .answer) (x .step .session) (x .left) × Ran (x .step .session) events e
 
 abbrev pub callsOf : List Event → List Call
 callsOf events = map (λ (x : Event). x .given) events
-
--- each answer, each buffer and what ranges in the end are the ledger's
-pub record Kept (p : Profile) (events : List Event) (e : Session) : Type 0 where
-  pub answers : map seenOf events ≡ seenFrom (ledgerCall p) nothing (callsOf events)
-  pub ranging : (t : Technology) → inForceIn e t ≡ stateAfter (ledgerCall p) nothing (callsOf events) t .inForce

@@ -1,0 +1,69 @@
+-- Demand 3, over every list of calls that keep their contracts, from the session that an accepted start returned.
+use Prim.Native.Nat.{ℕ}
+use mathlib.Core.Path.{_≡_, refl, sym, ap, subst, _∙_}
+use mathlib.Core.List.{List, _∷_, _++_, map}
+use mathlib.Core.Option.{some}
+use mathlib.Core.Logic.{_↔_}
+use mathlib.Core.Bool.{true, false, _&&_}
+use lib.Dec.{eqb, ltb}
+use Rattle.codec.specs.Refusal.{notValid}
+use Rattle.codec.specs.Records.{capabilities, configurations}
+use Rattle.codec.specs.Message.{assigned}
+use Rattle.codec.specs.Valid.{setIn, validColumn, valid}
+use Rattle.codec.specs.declared.records.Record.{Record}
+use Rattle.codec.proofs.Outcomes.{by-bool, and-true, no-zero}
+use Rattle.codec.proofs.ValidCases.{response-valid}
+use Rattle.session.specs.declared.state.Profile.{Profile}
+use Rattle.session.specs.declared.state.Session.{Session}
+use Rattle.session.specs.declared.state.Started.{Started}
+use Rattle.session.specs.Technology.{Technology, Settings}
+use Rattle.session.specs.Rules.{validProfile}
+use Rattle.session.specs.Ledger.{Ledger, nothing, ledgerCall, seenFrom}
+use Rattle.session.specs.Session.{inForceIn, fresh, asProfile, profileOf, started}
+use Rattle.session.specs.Trace.{Event, seenOf, Ran, callsOf}
+use Rattle.session.specs.Demand3.{held, sessionOf, Demand3}
+use Rattle.session.proofs.Steps.{fits, start-refused, start-accepted}
+use Rattle.session.proofs.Simulation.{ledgerOf}
+use Rattle.session.proofs.Lists.{fresh-tidy, tidy-is, answers-kept, ledger-kept, tidy-kept, fresh-blank}
+use Rattle.session.proofs.InWords.{InForce, in-words, words-decide}
+use Rattle.session.proofs.Reported.{reported}
+
+-- ---- from a fresh session with a valid profile
+
+in-force : (s : Session) (t : Technology) → inForceIn s t ≡ ledgerOf s t .inForce
+unfolding ledgerOf
+in-force s t = refl
+
+module _ (p : Profile) (v : validProfile p ≡ true) (events : List Event) (e : Session) (ran : Ran (fresh p) events e) where
+  from-fresh : Demand3 p events e
+  from-fresh =
+      let answers : map seenOf events ≡ seenFrom (ledgerCall p) nothing (callsOf events) = rw (fresh-blank p) at (answers-kept p v events (fresh p) e (fresh-tidy p) ran) in
+      let ledger : ledgerOf e ≡ held p (callsOf events) = rw (fresh-blank p) at (ledger-kept p v events (fresh p) e (fresh-tidy p) ran) in
+      let ranging : (t : Technology) → inForceIn e t ≡ held p (callsOf events) t .inForce = λ t. in-force e t ∙ ap (λ (l : Ledger). l t .inForce) ledger in
+      record {
+        answers = answers;
+        ranging = ranging;
+        session = tidy-is p e (tidy-kept p v events (fresh p) e (fresh-tidy p) ran) ∙ ap (sessionOf p) ledger;
+        account = InForce p;
+        words = in-words p;
+        only = λ other w. words-decide p other (InForce p) w (in-words p);
+        says = λ t x. (λ i. sym (ranging t) ∙ i, λ i. ranging t ∙ i);
+        reports = λ before x later split. reported p (InForce p) (in-words p) before x later (subst (λ (l : List Event). map seenOf l ≡ seenFrom (ledgerCall p) nothing (callsOf l)) split answers);
+      }
+
+-- ---- from an accepted start
+
+module _ (r : Record) (n : ℕ) where
+  profile-valid : fits r n ≡ true → validProfile (asProfile r n) ≡ true
+  unfolding validProfile valid
+  profile-valid h =
+      let a = and-true (eqb (r .id) 1 && valid r) (ltb n 3) h in
+      let b = and-true (eqb (r .id) 1) (valid r) (a .0) in
+      let c = rw (b .0) at (and-true (assigned (r .id)) (ltb (r .set) 16 && (validColumn capabilities (setIn 1 r) (r .capability) && validColumn configurations (setIn 2 r) (r .configuration))) (b .1) .1) in
+      let d = and-true (ltb (r .set) 16) _ c in
+      rw (response-valid (r .set) (r .capability), d .0, and-true (validColumn capabilities (r .set) (r .capability)) _ (d .1) .0, a .1)
+
+  pub demand-3 : (x : Started) → x ≡ started (profileOf r n) → x .refusal ≡ 0 → (events : List Event) (e : Session) → Ran (x .session) events e → Demand3 (asProfile r n) events e
+  demand-3 x h z events e ran =
+      let t = by-bool (fits r n) (λ t. t) (λ f. absurd (no-zero notValid (sym (ap (λ (y : Started). y .refusal) (h ∙ ap started (start-refused r n f))) ∙ z))) in
+      from-fresh (asProfile r n) (profile-valid t) events e (subst (λ (s : Session). Ran s events e) (ap (λ (y : Started). y .session) (h ∙ ap started (start-accepted r n t))) ran)

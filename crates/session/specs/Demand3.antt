@@ -1,0 +1,45 @@
+-- Demand 3, of a list of calls from the session that an accepted start returned.
+use mathlib.Core.Path.{_≡_}
+use mathlib.Core.List.{List, _∷_, _++_, map}
+use mathlib.Core.Option.{some}
+use mathlib.Core.Logic.{_↔_}
+use mathlib.Core.Bool.{cond}
+use Rattle.session.specs.declared.state.Profile.{Profile}
+use Rattle.session.specs.declared.state.Session.{Session}
+use Rattle.session.specs.Technology.{Technology, uwb, nan, rssi, Settings}
+use Rattle.session.specs.Rules.{Call}
+use Rattle.session.specs.Ledger.{Ledger, nothing, ledgerCall, seenFrom, stateAfter}
+use Rattle.session.specs.History.{Account, Words, Reports}
+use Rattle.session.specs.Session.{inForceIn, uwbPart, nanPart, rssiPart}
+use Rattle.session.specs.Trace.{Event, seenOf, callsOf}
+
+-- what the ledger holds after these calls
+abbrev pub held : Profile → List Call → Ledger
+held p calls = stateAfter (ledgerCall p) nothing calls
+
+-- the session record that says what a ledger holds
+abbrev pub sessionOf : Profile → Ledger → Session
+sessionOf p l = record {
+  profile = p;
+  uwb = uwbPart (l uwb .inForce);
+  nan = nanPart (l nan .inForce);
+  rssi = rssiPart (l rssi .inForce);
+  mark = cond (l uwb .mark) 1 0;
+}
+
+-- `e` is the session after the calls
+pub record Demand3 (p : Profile) (events : List Event) (e : Session) : Type 1 where
+  -- Every answer and every reply buffer is the one that the ledger gives from the start and the calls alone.
+  pub answers : map seenOf events ≡ seenFrom (ledgerCall p) nothing (callsOf events)
+  -- At the end the session ranges with exactly what the ledger does, under the same settings.
+  pub ranging : (t : Technology) → inForceIn e t ≡ held p (callsOf events) t .inForce
+  -- The whole record is the ledger's: a technology that is not ranging has zero settings, and equal histories give equal records.
+  pub session : e ≡ sessionOf p (held p (callsOf events))
+  -- There is an account of what ranges after each list of calls that keeps to the customer's words, and one only;
+  pub account : Account
+  pub words : Words p account
+  pub only : (other : Account) → Words p other → (calls : List Call) (t : Technology) (x : Settings t) → other calls t x ↔ account calls t x
+  -- it says what ranges after this list, and with which settings.
+  pub says : (t : Technology) (x : Settings t) → (inForceIn e t ≡ some x) ↔ account (callsOf events) t x
+  -- The answer of each call names as set exactly what that call sets, and as stopped exactly what it ends.
+  pub reports : (before : List Event) (x : Event) (later : List Event) → events ≡ before ++ x ∷ later → Reports p account (callsOf before) (x .given) (x .step .answer)
