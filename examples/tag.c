@@ -23,9 +23,9 @@ static const struct raydulcimer_record profile = {
     .capability = {
         .uwb = {
             .address = {0x4B, 0x1D},
-            .channels = 1u << 5 | 1u << 9,
-            .preamble_indexes = 0xFu << 8, /* bits 8 to 11: preamble indexes 9 to 12 */
-            .config_ids = 1u << 1 | 1u << 3,
+            .channels = {1u << 5 | 1u << 9},
+            .preamble_indexes = {0xFu << 8}, /* bits 8 to 11: preamble indexes 9 to 12 */
+            .config_ids = {1u << 1 | 1u << 3},
             .shortest_interval = 120,
             .shortest_slot = 2,
             .roles = 0x1 | 0x2, /* initiator and responder */
@@ -110,7 +110,7 @@ static void print_ranging(const struct raydulcimer_session *session)
 {
     const struct raydulcimer_uwb_configuration *uwb = &session->uwb.settings;
     printf("; ranging:");
-    if (session->uwb.ranging) printf(" UWB (channel %d, every %d ms)", uwb->channel, uwb->interval);
+    if (session->uwb.ranging) printf(" UWB (channel %d, every %d ms)", uwb->channel.number, uwb->interval);
     if (session->nan.ranging) printf(" NAN");
     if (session->rssi.ranging) printf(" RSSI");
     if (!session->uwb.ranging && !session->nan.ranging && !session->rssi.ranging) printf(" none");

@@ -56,12 +56,37 @@ extern "C" {
 #define RAYDULCIMER_REPLIES_ON 1
 #define RAYDULCIMER_REPLIES_OFF 2
 
+/* UWB's channel, preamble index and config ID are kinds of their own, and so are sets of them: none is taken for another. */
+struct raydulcimer_channel {
+    uint8_t number;
+};
+
+struct raydulcimer_preamble_index {
+    uint8_t number;
+};
+
+struct raydulcimer_config_id {
+    uint8_t number;
+};
+
+struct raydulcimer_channels {
+    uint32_t bits; /* bit n for channel n */
+};
+
+struct raydulcimer_preamble_indexes {
+    uint32_t bits; /* bit n for preamble index n + 1 */
+};
+
+struct raydulcimer_config_ids {
+    uint32_t bits; /* bit n for config ID n */
+};
+
 /* What a technology's block of message 1 says. Intervals and slots are in ms; addresses are octets in wire order. */
 struct raydulcimer_uwb_capability {
     uint8_t address[2];
-    uint32_t channels;         /* bit n for channel n */
-    uint32_t preamble_indexes; /* bit n for preamble index n + 1 */
-    uint32_t config_ids;       /* bit n for config ID n */
+    struct raydulcimer_channels channels;
+    struct raydulcimer_preamble_indexes preamble_indexes;
+    struct raydulcimer_config_ids config_ids;
     uint16_t shortest_interval; /* 96, 120, 240, 600 */
     uint8_t shortest_slot;      /* 1, 2 */
     uint8_t roles;
@@ -88,9 +113,9 @@ struct raydulcimer_rssi {
 struct raydulcimer_uwb_configuration {
     uint8_t address[2];
     uint32_t session_id;
-    uint8_t config_id;
-    uint8_t channel;
-    uint8_t preamble_index;
+    struct raydulcimer_config_id config_id;
+    struct raydulcimer_channel channel;
+    struct raydulcimer_preamble_index preamble_index;
     uint16_t interval;  /* 96, 120, 240, 600 */
     uint8_t slot;       /* 1, 2 */
     uint8_t key_length; /* 8, 16, 32 */

@@ -9,6 +9,7 @@
     N(NOT_ALLOWED) N(LEFT_OVER) N(NOT_FOR_TAG) N(BUFFER_TOO_SHORT) N(NOT_VALID)
 
 #define STRUCTS(S) \
+    S(channel) S(preamble_index) S(config_id) S(channels) S(preamble_indexes) S(config_ids) \
     S(uwb_capability) S(cs_capability) S(nan_capability) S(rssi) S(uwb_configuration) S(cs_configuration) \
     S(nan_configuration) S(capability) S(configuration) S(record) \
     S(profile) S(uwb_state) S(nan_state) S(rssi_state) S(session) S(answer) S(started) S(block)

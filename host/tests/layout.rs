@@ -2,8 +2,9 @@
 //! that the library's calls put into them and take from them, seen from C and from Rust.
 use raydulcimer::raw::{self, Profile, Started, State};
 use raydulcimer::{
-    block, read, write, Block, Capability, Configuration, CsCapability, CsConfiguration, NanCapability,
-    NanConfiguration, Record, Refusal, Replies, Rssi, UwbCapability, UwbConfiguration, MESSAGE_LIMIT,
+    block, read, write, Block, Capability, Channel, Channels, ConfigId, ConfigIds, Configuration, CsCapability,
+    CsConfiguration, NanCapability, NanConfiguration, PreambleIndex, PreambleIndexes, Record, Refusal, Replies, Rssi,
+    UwbCapability, UwbConfiguration, MESSAGE_LIMIT,
 };
 use std::fmt::Write;
 use std::io::Write as _;
@@ -60,6 +61,12 @@ fn sizes() -> String {
         )*};
     }
     sizes!(
+        "channel" Channel,
+        "preamble_index" PreambleIndex,
+        "config_id" ConfigId,
+        "channels" Channels,
+        "preamble_indexes" PreambleIndexes,
+        "config_ids" ConfigIds,
         "uwb_capability" UwbCapability,
         "cs_capability" CsCapability,
         "nan_capability" NanCapability,
