@@ -2,8 +2,7 @@
 use Prim.Native.Nat.{ℕ, zero, suc, _+_}
 use mathlib.Core.Path.{_≡_}
 use mathlib.Core.List.{List, [], _∷_}
-use mathlib.Core.Bool.{Bool, cond}
-use lib.Dec.{leb}
+use mathlib.Core.Bool.{Bool}
 use lib.ListN.{length, getD}
 use Rattle.codec.specs.Refusal.{Checked, refuse, accept}
 use Rattle.codec.specs.Message.{idOf, blocksAt, Walked, walk, parse}
@@ -28,16 +27,18 @@ listed (accept blocks) at n = nthFrom blocks at n
 unfoldable pub nthBlock : List ℕ → ℕ → Block
 nthBlock m n = listed (parse m) (blocksAt (idOf m)) n
 
--- ---- what the walker finds
+-- ---- the blocks that are left from a place on
 
--- the head of the block at a place; none where the message has no two octets there
-unfoldable pub headAt : List ℕ → ℕ → Block
-headAt m at = cond (leb (at + 2) (length m)) (record { place = at; id = getD m at 0; size = getD m (at + 1) 0 }) noBlock
+-- the head of the block at a place
+abbrev pub headAt : List ℕ → ℕ → Block
+headAt m at = record { place = at; id = getD m at 0; size = getD m (at + 1) 0 }
 
--- the place after that block, by its size
-abbrev pub placeAfter : List ℕ → ℕ → ℕ
-placeAfter m at = at + headAt m at .size
+-- the walk passes over as many blocks
+pub record Passes (m : List ℕ) (left at : ℕ) : Type 0 where
+  pub came : ℕ → Bool
+  pub walked : Walked
+  pub accepted : walk m left came at ≡ accept walked
 
--- the n-th block from a place on, where the walk passes over as many as are left
+-- the n-th of them
 abbrev pub Lists : List ℕ → ℕ → ℕ → ℕ → Block → Type 0
-Lists m left at n r = (came : ℕ → Bool) (w : Walked) → walk m left came at ≡ accept w → r ≡ nthFrom (w .blocks) at n
+Lists m left at n r = (p : Passes m left at) → r ≡ nthFrom (p .walked .blocks) at n

@@ -65,6 +65,10 @@ layoutsOf id = cond (eqb id 1) capabilityBlock configurationBlock
 abbrev pub blockAt : List ℕ → ℕ → List ℕ
 blockAt m at = part at (getD m (at + 1) 0) m
 
+-- the place after it, by its size
+abbrev pub placeAfter : List ℕ → ℕ → ℕ
+placeAfter m at = at + getD m (at + 1) 0
+
 -- In a block: both head octets there, ID, size, block whole, fields in order. `came` tells which IDs came before.
 -- A block with ID 4 to 15 has the empty layout, so that it is passed over by its size.
 unfoldable pub blockFault : List ℕ → (ℕ → Bool) → ℕ → Checked (Unit {0})
@@ -98,7 +102,7 @@ unfoldable pub walk : List ℕ → ℕ → (ℕ → Bool) → ℕ → Checked Wa
 walk m zero came at = accept (record { blocks = []; end = at })
 walk m (suc n) came at =
     andThen (blockFault m came at) λ _.
-    andThen (walk m n (also (getD m at 0) came) (at + getD m (at + 1) 0)) λ w.
+    andThen (walk m n (also (getD m at 0) came) (placeAfter m at)) λ w.
     accept (prepend (blockAt m at) w)
 
 -- End of the message: version 1 allows no octet more. In the versions above it octets after the known part are ignored.

@@ -6,6 +6,7 @@ use crate::refusal::ENDS_EARLY;
 use crate::refusal::WRONG_BLOCK;
 use crate::technology::has;
 use crate::technology::without;
+use crate::walker::next_place;
 ghost use mathlib.Core.Path.{_≡_};
 ghost use mathlib.Core.Bool.{Bool};
 ghost use Prim.Native.Nat.{ℕ, _+_, _≤_};
@@ -87,7 +88,8 @@ pub(crate) fn walk(m: &&[u8], at: usize, left: u32, awaited: u16, found: &mut [u
         return fault;
     }
     let id = m[at];
-    let size = m[at + 1] as usize;
+    // before the place is kept: after a store the compiler would read the size again
+    let next = next_place(*m, at);
     note(id, at as u16, found);
-    walk(m, at + size, left - 1, without(awaited, id), found)
+    walk(m, next, left - 1, without(awaited, id), found)
 }

@@ -3,7 +3,7 @@ use lib.ListN.{getD, length-set}
 use mathlib.Core.Path.{_≡_, sym, ap, _∙_}
 use native.Mathlib.Nat.{pos-of-ne-zero}
 use native.Mathlib.Omega.{arith}
-use Prim.Native.Nat.{ℕ, _+_, _<_}
+use Prim.Native.Nat.{ℕ, _<_}
 use borrow.Fn.Kinds.{In}
 use borrow.Fn.PlainCycle.{Measures, is, falls, and}
 use Rattle.codec.specs.Message.{also, blockFault}
@@ -14,6 +14,7 @@ use Rattle.codec.proofs.walk.+walk.Lts-walk as walk-lts
 use Rattle.codec.proofs.technology.without.Reads as without-reads
 use Rattle.codec.proofs.walk.block_fault.Reads as block-fault-reads
 use Rattle.codec.proofs.walk.note.Reads as note-reads
+use Rattle.codec.proofs.walker.next_place.Reads as next-place-reads
 use Rattle.codec.proofs.walk.+walk.{statement}
 use Rattle.codec.proofs.walk.+walk.Tie.{close}
 
@@ -30,6 +31,8 @@ abbrev claims : ℕ → walk-lts.Claims
 claims t = (
   block-fault-reads.Asked,
   block-fault-reads.Learnt,
+  next-place-reads.Asked,
+  next-place-reads.Learnt,
   note-reads.Asked,
   note-reads.Learnt,
   without-reads.Asked,
@@ -63,42 +66,33 @@ module _ (t : ℕ) where
   index-1-id : walk-lts.Need-index-1-id (claims t) (walk-at t) walk.Post
   index-1-id c = omega (arith, here c .two)
 
-  add-size : walk-lts.Need-add-size (claims t) (walk-at t) walk.Post
-  add-size c = omega (arith, here (c .before) .two)
-
-  index-1-size : walk-lts.Need-index-1-size (claims t) (walk-at t) walk.Post
-  index-1-size c = omega (arith, here (c .before) .two)
-
-  cast-size : walk-lts.Need-cast-size (claims t) (walk-at t) walk.Post
-  cast-size c = omega (arith, here (c .before .before) .whole, c .before .before .before .before .before .before .pre .1 .1)
+  next-place-requires : walk-lts.Need-next-place-requires (claims t) (walk-at t) walk.Post
+  next-place-requires c κs = here (c .before .before) .two
 
   cast-note : walk-lts.Need-cast-note (claims t) (walk-at t) walk.Post
-  cast-note c = omega (arith, c .before .before .before .before .before .before .pre .1 .1, c .before .before .before .before .before .before .pre .1 .2)
+  cast-note c = omega (arith, c .before .before .before .before .before .before .before .pre .1 .1, c .before .before .before .before .before .before .before .pre .1 .2)
 
   note-requires : walk-lts.Need-note-requires (claims t) (walk-at t) walk.Post
-  note-requires c κs = c .before .before .before .before .before .before .before .pre .1 .3
-
-  add-walk : walk-lts.Need-add-walk (claims t) (walk-at t) walk.Post
-  add-walk c = omega (arith, here (c .before .before .before .before) .whole, c .before .before .before .before .before .before .before .before .pre .1 .1)
+  note-requires c κs = c .before .before .before .before .before .before .before .before .pre .1 .3
 
   sub-walk : walk-lts.Need-sub-walk (claims t) (walk-at t) walk.Post
-  sub-walk c = pos-of-ne-zero (c .before .before .before .before .before .before .before .if1 .left)
+  sub-walk c = pos-of-ne-zero (c .before .before .before .before .before .before .before .before .if1 .left)
 
   without-requires : walk-lts.Need-without-requires (claims t) (walk-at t) walk.Post
-  without-requires c κs = here (c .before .before .before .before) .comes
+  without-requires c κs = here (c .before .before .before .before .before) .comes
 
   walk-requires : walk-lts.Need-walk-requires (claims t) (walk-at t) walk.Post
-  walk-requires c κs = (omega (arith, pos-of-ne-zero (c .before .before .before .before .before .before .before .before .before .if1 .left)), (c .before .before .before .before .before .before .before .before .before .before .pre .1 .0, c .before .before .before .before .before .before .before .before .before .before .pre .1 .1, here (c .before .before .before .before .before .before) .whole, c .before .before .note .ensures .1))
+  walk-requires c κs = (omega (arith, pos-of-ne-zero (c .before .before .before .before .before .before .before .before .before .before .if1 .left)), (c .before .before .before .before .before .before .before .before .before .before .before .pre .1 .0, c .before .before .before .before .before .before .before .before .before .before .before .pre .1 .1, rw (c .before .before .before .before .next-place .ensures) (here (c .before .before .before .before .before .before .before) .whole), c .before .before .note .ensures .1))
 
   returns-3 : walk-lts.Need-returns-3 (claims t) (walk-at t) walk.Post
   returns-3 c =
-      let s = c .before .before .before .before .before .before .before .before .before .before .before .args in
+      let s = c .before .before .before .before .before .before .before .before .before .before .before .before .args in
       let m = s .m .now .now in
-      let fault = c .before .before .before .before .before .before .before .before .block-fault .ensures in (
+      let fault = c .before .before .before .before .before .before .before .before .before .block-fault .ensures in (
         λ came w.
-            let a : blockFault m came (s .at) ≡ accept tt = sym (awaited-block m (s .awaited) (s .at) came w) ∙ accepted m (s .awaited) (s .at) fault (c .before .before .before .before .before .before .before .if2 .left) in
-            find-next m came (s .at) _ _ _ _ (c .before .before .before .before .before .before .before .before .before .before .if1 .left) (sound m came (s .at) a) a
-            (rw (c .before .before .before .note .ensures .0) at (c .walk .ensures .0 (also (getD m (s .at) 0) came) (awaits-next m came (getD m (s .at) 0) (s .awaited) _ w (c .before .before .without .ensures)))),
+            let a : blockFault m came (s .at) ≡ accept tt = sym (awaited-block m (s .awaited) (s .at) came w) ∙ accepted m (s .awaited) (s .at) fault (c .before .before .before .before .before .before .before .before .if2 .left) in
+            find-next m came (s .at) _ _ _ _ (c .before .before .before .before .before .before .before .before .before .before .before .if1 .left) (sound m came (s .at) a) a
+            (rw (c .before .before .before .before .before .next-place .ensures, c .before .before .before .note .ensures .0) at (c .walk .ensures .0 (also (getD m (s .at) 0) came) (awaits-next m came (getD m (s .at) 0) (s .awaited) _ w (c .before .before .without .ensures)))),
         c .walk .ensures .1,
       )
 
@@ -106,4 +100,4 @@ pub +walk-spec : {M : Type 1} → statement M
 +walk-spec =
     close μ-walk λ t.
     walk-lts.spec (claims t) (walk-at t) walk.Post
-    (cast-found t) (element-write-found t) (returns t) (block-fault-requires t) (returns-2 t) (index-1-id t) (add-size t) (index-1-size t) (cast-size t) (cast-note t) (note-requires t) (add-walk t) (sub-walk t) (without-requires t) (walk-requires t) (returns-3 t)
+    (cast-found t) (element-write-found t) (returns t) (block-fault-requires t) (returns-2 t) (index-1-id t) (next-place-requires t) (cast-note t) (note-requires t) (sub-walk t) (without-requires t) (walk-requires t) (returns-3 t)

@@ -3,14 +3,20 @@ use Prim.Native.Nat.{_≤_}
 use lib.ListN.{length}
 use borrow.Author.Tests.{ne-eqb}
 use mathlib.Core.Path.{_∙_}
-use Rattle.codec.proofs.Listed.{lists-none, lists-refused, room, lists-message}
+use Rattle.codec.specs.Message.{idOf, setOf, blocksAt, blockCount}
+use Rattle.codec.specs.Listing.{Passes}
+use Rattle.codec.proofs.Listed.{lists-none, lists-refused, room, passes-all, lists-message}
 use borrow.Author.Needs.{needs}
-use Rattle.codec.proofs.walker.block.Statement.{statement}
-use Rattle.codec.proofs.walker.block.Tie as tie
+use Rattle.codec.proofs.listing.block.Statement.{statement}
+use Rattle.codec.proofs.listing.block.Tie as tie
 
 -- a message that is not refused has its set
 four : (c : tie.Else1) → 4 ≤ length (c .before .before .before .before .args .message .now)
 four c = room _ _ (c .before .message-fault .ensures .number) (c .if1 .left) (λ i. omega (arith, c .before .before .before .shared-slice-known .given i))
+
+-- and its blocks are whole
+blocks : (c : tie.Else1) → let m = c .before .before .before .before .args .message .now in Passes m (blockCount (idOf m) (setOf m)) (blocksAt (idOf m))
+blocks c = passes-all _ _ (c .before .message-fault .ensures .number) (c .if1 .left)
 
 message-fault-requires : tie.Need-message-fault-requires
 message-fault-requires c κs = search needs
@@ -28,13 +34,13 @@ u16-at-requires : tie.Need-u16-at-requires
 u16-at-requires c κs = omega (arith, four (c .before .before))
 
 nth-block-requires : tie.Need-nth-block-requires
-nth-block-requires c κs = search needs
+nth-block-requires c κs = rw (c .u16-at .ensures) (rw (c .before .match .keys1) at (blocks (c .before .before .before)))
 
 u16-at-requires-2 : tie.Need-u16-at-requires-2
 u16-at-requires-2 c κs = omega (arith, four (c .before .before))
 
 nth-block-requires-2 : tie.Need-nth-block-requires-2
-nth-block-requires-2 c κs = search needs
+nth-block-requires-2 c κs = rw (c .u16-at2 .ensures) (rw (c .before .match .keys2) at (blocks (c .before .before .before)))
 
 no-block-requires-2 : tie.Need-no-block-requires-2
 no-block-requires-2 c κs = search needs
