@@ -10,7 +10,7 @@ use lib.Seq.{take-at}
 use borrow.Author.Tests.{le-leb}
 use Rattle.codec.specs.Octets.{Octets}
 use Rattle.codec.specs.Refusal.{Checked, refuse, accept, bufferTooShort, notValid}
-use Rattle.codec.specs.Message.{messageLimit, reading, Reads}
+use Rattle.codec.specs.Message.{reading, Reads}
 use Rattle.codec.specs.Records.{accepted, answer}
 use Rattle.codec.specs.WellFormed.{WellFormed}
 use Rattle.codec.specs.Valid.{TypedRecord, valid}
@@ -22,7 +22,7 @@ use Rattle.codec.specs.declared.records.Reading.{Reading}
 use Rattle.codec.specs.declared.records.Written.{Written}
 use Rattle.codec.proofs.Outcomes.{demanded, no-zero}
 use Rattle.codec.proofs.Exact.{exact}
-use Rattle.codec.proofs.ReadBack.{normal-octets, normal-formed, normal-normal, normal-fits}
+use Rattle.codec.proofs.ReadBack.{normal-octets, normal-formed, normal-normal}
 use Rattle.codec.proofs.Converse.{record-valid, normal-is}
 
 -- ---- what a call read
@@ -56,9 +56,9 @@ wrote r {d} {e} {w} h z =
     same : {u v : List ℕ} → _≡_ {A = Checked (List ℕ)} (accept u) (accept v) → v ≡ u
     same g = cc
 
-fitted : (r : Record) {d e : List ℕ} {w : Written} → Writes r d w e → valid r ≡ true → length (normal r) ≤ length d → w .refusal ≡ 0
+fitted : (r : Record) {d e : List ℕ} {w : Written} → Writes r d w e → valid r ≡ true → length (normal r) ≤ length d → (w .refusal ≡ 0) × (w .length ≡ length (normal r))
 unfolding writing
-fitted r {d} h v l = rw (h .answers, v, le-leb (length (normal r)) (length d) l)
+fitted r {d} h v l = let f = le-leb (length (normal r)) (length d) l in (rw (h .answers, v, f), rw (h .answers, v, f))
 
 -- ---- every valid record is read back from its normal form
 
@@ -80,11 +80,11 @@ module _ (m : List ℕ) (o : Octets m) (r : Record) (h : answer (reading m) ≡ 
 pub demand-2 : Demand2
 demand-2 = record {
   exact = λ m a h r. subst (λ (b : Reading). (b ≡ accepted r) ↔ WellFormed m r) (sym (h .answers)) (exact m (h .octets) r);
-  writes = λ r d e w h v l. let z = fitted r (h .writes) v l in record {
+  writes = λ r d e w h v l. let z = fitted r (h .writes) v l .0 in record {
     accepted = z;
+    length = fitted r (h .writes) v l .1;
     octets = wrote r (h .writes) z .1;
     form = normal-normal r (h .typed) v;
-    limit = normal-fits r (h .typed) v;
   };
   back = λ r d e w a h z k. let q = wrote r (h .writes) z in k .answers ∙ (ap (λ (l : List ℕ). answer (reading l)) (q .1) ∙ reads-back r (h .typed) (q .0));
   sound = λ m a h z. accepted-valid m (h .octets) (a .value) (accepts h z) .1;

@@ -113,7 +113,7 @@ module _ (r : Record) (T : TypedRecord r) (ok : valid r ≡ true) where
       go false = omega arith
 
   -- it fits the message limit
-  pub normal-fits : length (normal r) ≤ messageLimit
+  normal-fits : length (normal r) ≤ messageLimit
   unfolding normal
   normal-fits = short (sets (r .id) (r .set)) (flatten (blocksOf r)) sets-short (good .size)
     where

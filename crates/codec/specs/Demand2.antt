@@ -7,7 +7,7 @@ use mathlib.Core.Bool.{true}
 use mathlib.Core.List.{List}
 use lib.ListN.{length}
 use Rattle.codec.specs.Records.{accepted}
-use Rattle.codec.specs.Message.{messageLimit, Reads}
+use Rattle.codec.specs.Message.{Reads}
 use Rattle.codec.specs.WellFormed.{WellFormed}
 use Rattle.codec.specs.Valid.{valid}
 use Rattle.codec.specs.NormalForm.{normal, NormalForm}
@@ -16,18 +16,17 @@ use Rattle.codec.specs.declared.records.Record.{Record}
 use Rattle.codec.specs.declared.records.Reading.{Reading}
 use Rattle.codec.specs.declared.records.Written.{Written}
 
--- a call that was given a valid record and a buffer with room for its normal form wrote this form, which is in normal form and keeps to
--- the message limit
+-- a call wrote the normal form of its record, and returned its length; the octets are in normal form
 pub record WroteNormal (r : Record) (w : Written) (e : List ℕ) : Type 0 where
   pub accepted : w .refusal ≡ 0
+  pub length : w .length ≡ length (normal r)
   pub octets : octetsWritten w e ≡ normal r
   pub form : NormalForm (normal r)
-  pub limit : length (normal r) ≤ messageLimit
 
 pub record Demand2 : Type 0 where
   -- The reader accepts exactly what is well formed, and reads the fields that the layouts give.
   pub exact : (m : List ℕ) (a : Reading) → Reads m a → (r : Record) → (a ≡ accepted r) ↔ WellFormed m r
-  -- The writer gives each valid record its one normal form;
+  -- The writer gives each valid record its one normal form, in every buffer that has room for it;
   pub writes : (r : Record) (d e : List ℕ) (w : Written) → WritesTyped r d w e → valid r ≡ true → length (normal r) ≤ length d → WroteNormal r w e
   -- reading that form gives the record back;
   pub back : (r : Record) (d e : List ℕ) (w : Written) (a : Reading) → WritesTyped r d w e → w .refusal ≡ 0 → Reads (octetsWritten w e) a → a ≡ accepted r

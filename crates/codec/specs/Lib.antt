@@ -1,9 +1,9 @@
 pub mod Refusal
 pub mod Octets
+pub mod Technology
 pub mod Layout
 pub mod Blocks
 pub mod Records
-pub mod Technology
 pub mod Message
 pub mod WellFormed
 pub mod Valid

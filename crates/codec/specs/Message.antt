@@ -154,7 +154,7 @@ recordOf id set blocks = record {
 unfoldable pub reading : List ℕ → Checked Record
 reading m = andThen (parse m) λ blocks. accept (recordOf (idOf m) (setOf m) blocks)
 
--- what a call of the reader returns that is given m; these are octets, as the type of the code ensures
+-- the contract of `read`: m is octets, as its type ensures, and the answer is that of `reading`
 pub record Reads (m : List ℕ) (a : Reading) : Type 0 where
   pub octets : Octets m
   pub answers : a ≡ answer (reading m)

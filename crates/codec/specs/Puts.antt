@@ -1,4 +1,4 @@
--- What the inner functions of the writer keep, and those of the listing: octets put into the buffer one piece after the other, and how long the blocks are.
+-- What the inner functions of the writer keep, and those that lay out a bench log's listing: octets put into the buffer one piece after the other, and how long the blocks are.
 use Prim.Native.Nat.{ℕ, _+_, _≤_}
 use mathlib.Core.Bool.{Bool, true, false, _&&_, _||_, cond}
 use mathlib.Core.Path.{_≡_}

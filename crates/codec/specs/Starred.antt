@@ -2,7 +2,7 @@
 use Prim.Native.Nat.{ℕ}
 use mathlib.Core.Path.{_≡_}
 use mathlib.Core.List.{List, [], _∷_}
-use Rattle.codec.specs.Records.{capabilities, configurations, blank, accepted, refused, answer}
+use Rattle.codec.specs.Records.{capabilities, configurations, blank, withoutBlocks, accepted, refused, answer}
 use Rattle.codec.specs.Message.{reading}
 use Rattle.codec.specs.declared.records.Record.{Record}
 use Rattle.codec.specs.declared.records.Reading.{Reading}
@@ -13,10 +13,6 @@ pub record Row : Type 0 where
 
 abbrev row : List ℕ → Reading → Row
 row m a = record { message = m; gives = a }
-
--- a record of these technologies without a block
-abbrev alone : ℕ → ℕ → Record
-alone id set = record { id = id; set = set; capability = blank capabilities; configuration = blank configurations }
 
 -- UWB is bit 0, RSSI bit 3
 abbrev uwbAndRssi : ℕ
@@ -42,13 +38,13 @@ starred a b c d e f =
     row [] (refused 2)
     ∷ row (0x01 ∷ []) (refused 2)
     ∷ row (0x01 ∷ 0x00 ∷ 0x09 ∷ []) (refused 2)
-    ∷ row (0x01 ∷ 0x00 ∷ 0x09 ∷ 0x00 ∷ []) (accepted (alone 0 uwbAndRssi))
+    ∷ row (0x01 ∷ 0x00 ∷ 0x09 ∷ 0x00 ∷ []) (accepted (withoutBlocks 0 uwbAndRssi))
     ∷ row (0x01 ∷ 0x00 ∷ 0x09 ∷ 0x00 ∷ 0x00 ∷ []) (refused 9)
-    ∷ row (0x03 ∷ 0x00 ∷ 0x19 ∷ 0x00 ∷ 0xAA ∷ []) (accepted (alone 0 uwbAndRssi))
+    ∷ row (0x03 ∷ 0x00 ∷ 0x19 ∷ 0x00 ∷ 0xAA ∷ []) (accepted (withoutBlocks 0 uwbAndRssi))
     ∷ row (0x00 ∷ 0x06 ∷ 0x01 ∷ 0x00 ∷ []) (refused 4)
     ∷ row (0x03 ∷ 0x06 ∷ 0x01 ∷ 0x00 ∷ []) (refused 4)
     ∷ row (0x01 ∷ 0x02 ∷ 0x02 ∷ 0x00 ∷ 0x0A ∷ 0x00 ∷ []) (refused 5)
-    ∷ row (0x01 ∷ 0x02 ∷ 0x00 ∷ 0x00 ∷ 0x00 ∷ 0x00 ∷ []) (accepted (alone 2 0))
+    ∷ row (0x01 ∷ 0x02 ∷ 0x00 ∷ 0x00 ∷ 0x00 ∷ 0x00 ∷ []) (accepted (withoutBlocks 2 0))
     ∷ row (0x01 ∷ 0x01 ∷ 0x08 ∷ 0x00 ∷ 0x03 ∷ 0x07 ∷ 0xA1 ∷ 0xA2 ∷ 0xA3 ∷ 0xA4 ∷ 0xA5 ∷ []) (refused 6)
     ∷ row (0x01 ∷ 0x01 ∷ 0x08 ∷ 0x00 ∷ 0x03 ∷ 0x08 ∷ 0xA1 ∷ []) (refused 2)
     ∷ row (0x01 ∷ 0x01 ∷ 0x08 ∷ 0x00 ∷ 0x00 ∷ 0x14 ∷ []) (refused 7)

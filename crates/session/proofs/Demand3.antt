@@ -19,9 +19,9 @@ use Rattle.session.specs.declared.state.Started.{Started}
 use Rattle.session.specs.Technology.{Technology, Settings}
 use Rattle.session.specs.Rules.{validProfile}
 use Rattle.session.specs.Ledger.{Ledger, nothing, ledgerCall, seenFrom}
-use Rattle.session.specs.Session.{inForceIn, fresh, asProfile, profileOf, started}
+use Rattle.session.specs.Session.{inForceIn, fresh, asProfile, started}
 use Rattle.session.specs.Trace.{Event, seenOf, Ran, callsOf}
-use Rattle.session.specs.Demand3.{held, sessionOf, Demand3}
+use Rattle.session.specs.Demand3.{held, sessionOf, Upheld, Demand3}
 use Rattle.session.proofs.Steps.{fits, start-refused, start-accepted}
 use Rattle.session.proofs.Simulation.{ledgerOf}
 use Rattle.session.proofs.Lists.{fresh-tidy, tidy-is, answers-kept, ledger-kept, tidy-kept, fresh-blank}
@@ -35,7 +35,7 @@ unfolding ledgerOf
 in-force s t = refl
 
 module _ (p : Profile) (v : validProfile p ≡ true) (events : List Event) (e : Session) (ran : Ran (fresh p) events e) where
-  from-fresh : Demand3 p events e
+  from-fresh : Upheld p events e
   from-fresh =
       let answers : map seenOf events ≡ seenFrom (ledgerCall p) nothing (callsOf events) = rw (fresh-blank p) at (answers-kept p v events (fresh p) e (fresh-tidy p) ran) in
       let ledger : ledgerOf e ≡ held p (callsOf events) = rw (fresh-blank p) at (ledger-kept p v events (fresh p) e (fresh-tidy p) ran) in
@@ -53,17 +53,16 @@ module _ (p : Profile) (v : validProfile p ≡ true) (events : List Event) (e : 
 
 -- ---- from an accepted start
 
-module _ (r : Record) (n : ℕ) where
-  profile-valid : fits r n ≡ true → validProfile (asProfile r n) ≡ true
-  unfolding validProfile valid
-  profile-valid h =
-      let a = and-true (eqb (r .id) 1 && valid r) (ltb n 3) h in
-      let b = and-true (eqb (r .id) 1) (valid r) (a .0) in
-      let c = rw (b .0) at (and-true (assigned (r .id)) (ltb (r .set) 16 && (validColumn capabilities (setIn 1 r) (r .capability) && validColumn configurations (setIn 2 r) (r .configuration))) (b .1) .1) in
-      let d = and-true (ltb (r .set) 16) _ c in
-      rw (response-valid (r .set) (r .capability), d .0, and-true (validColumn capabilities (r .set) (r .capability)) _ (d .1) .0, a .1)
+profile-valid : (r : Record) (n : ℕ) → fits r n ≡ true → validProfile (asProfile r n) ≡ true
+unfolding validProfile valid
+profile-valid r n h =
+    let a = and-true (eqb (r .id) 1 && valid r) (ltb n 3) h in
+    let b = and-true (eqb (r .id) 1) (valid r) (a .0) in
+    let c = rw (b .0) at (and-true (assigned (r .id)) (ltb (r .set) 16 && (validColumn capabilities (setIn 1 r) (r .capability) && validColumn configurations (setIn 2 r) (r .configuration))) (b .1) .1) in
+    let d = and-true (ltb (r .set) 16) _ c in
+    rw (response-valid (r .set) (r .capability), d .0, and-true (validColumn capabilities (r .set) (r .capability)) _ (d .1) .0, a .1)
 
-  pub demand-3 : (x : Started) → x ≡ started (profileOf r n) → x .refusal ≡ 0 → (events : List Event) (e : Session) → Ran (x .session) events e → Demand3 (asProfile r n) events e
-  demand-3 x h z events e ran =
-      let t = by-bool (fits r n) (λ t. t) (λ f. absurd (no-zero notValid (sym (ap (λ (y : Started). y .refusal) (h ∙ ap started (start-refused r n f))) ∙ z))) in
-      from-fresh (asProfile r n) (profile-valid t) events e (subst (λ (s : Session). Ran s events e) (ap (λ (y : Started). y .session) (h ∙ ap started (start-accepted r n t))) ran)
+pub demand-3 : Demand3
+demand-3 r n x h z events e ran =
+    let t = by-bool (fits r n) (λ t. t) (λ f. absurd (no-zero notValid (sym (ap (λ (y : Started). y .refusal) (h ∙ ap started (start-refused r n f))) ∙ z))) in
+    from-fresh (asProfile r n) (profile-valid r n t) events e (subst (λ (s : Session). Ran s events e) (ap (λ (y : Started). y .session) (h ∙ ap started (start-accepted r n t))) ran)

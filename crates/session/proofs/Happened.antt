@@ -138,16 +138,3 @@ happened p l (advertisement b) =
     by-room (length (normal (capabilityReply p (λ t. true)))) (length b)
     (λ y. advertised (record { is = refl; room = y }) (fits b _ y))
     (λ n. refused bufferTooShort (fits-not b _ n) (λ k r a. Option·none-ne-some r (a .says)) (λ d. let z = d .room in omega arith))
-
--- the set that an accepted Configuration returns
-pub configured-set : (p : Profile) (l : Ledger) (c : Call) (r : Record) → Accepted p configuration c r → answerTo (ledgerCall p l c) .set ≡ setOf (setBy ledgerKeeps p (r .set) (r .configuration) l)
-unfolding serve
-configured-set p l (message m b) r a = go (reading m) refl
-  where
-    go : (o : Checked Record) → reading m ≡ o → answerTo (ledgerCall p l (message m b)) .set ≡ setOf (setBy ledgerKeeps p (r .set) (r .configuration) l)
-    go (refuse x) e = absurd (Option·none-ne-some r (sym (ap accepted e) ∙ a .says))
-    go (accept q) e =
-        let s = e ∙ ap (λ (y : Record). accept y) (Option·some-injective q r (sym (ap accepted e) ∙ a .says)) in
-        let z = reply-length (explicit (p .replies)) SetMessage.ConfigurationResponse (setOf (setBy ledgerKeeps p (r .set) (r .configuration) l)) in
-        ap (λ (o : Checked (Served Ledger)). answerTo o .set) (to p l b m r s configuration (a .kind) ∙ fits b _ (rw z (a .room)))
-configured-set p l (advertisement b) r a = absurd (Option·none-ne-some r (a .says))

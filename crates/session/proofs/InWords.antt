@@ -17,13 +17,13 @@ use Rattle.codec.proofs.Columns.{response-has}
 use Rattle.codec.proofs.Outcomes.{by-bool, and-true}
 use Rattle.session.specs.declared.state.Profile.{Profile}
 use Rattle.session.specs.Technology.{Technology, uwb, cs, nan, rssi, idOf, setOf, Settings, settingsIn, capabilityIn, names, ranges, bars, within}
-use Rattle.session.specs.Rules.{Call, request, configuration, stop, Served, after, shows, capabilityReply, sets, setBy, endedBy, answerTo}
+use Rattle.session.specs.Rules.{Call, request, configuration, stop, Served, after, shows, capabilityReply, sets, setBy, endedBy}
 use Rattle.session.specs.Ledger.{Ledger, nothing, isSome, ledgerKeeps, ledgerCall, stateAfter}
 use Rattle.session.specs.History.{Account, Accepted, Stops, GivesOut, inReply, inAdvertisement, Never, Ends, Barred, Sets, LastSet, Words}
 use Rattle.session.specs.Demand3.{held}
 use Rattle.session.proofs.SetLaws.{names-set}
 use Rattle.session.proofs.Last.{Turn, stays, by-history}
-use Rattle.session.proofs.Happened.{Happened, refused, asked, advertised, configured, stopped, happened, configured-set, same-content, no-request-stop, no-request-configuration, no-configuration-stop, no-advertisement}
+use Rattle.session.proofs.Happened.{Happened, refused, asked, advertised, configured, stopped, happened, same-content, no-request-stop, no-request-configuration, no-configuration-stop, no-advertisement}
 
 pub both : {a b : Bool} → a ≡ true → b ≡ true → (a && b) ≡ true
 both x y = rw (x, y)
@@ -339,13 +339,13 @@ module _ (p : Profile) where
         let q = same (suc (length calls)) in
         (q .0 calls (omega arith) t x, q .1 calls (omega arith) t x)
 
-  -- an accepted Configuration returns exactly what it sets in these words
-  pub set-in-words : (R : Account) → Words p R → (calls : List Call) (c : Call) (r : Record) → Accepted p configuration c r → (t : Technology) → (names (answerTo (ledgerCall p (held p calls) c) .set) t ≡ true) ↔ Sets p R t calls c (settingsIn (r .configuration) t)
+  -- what an accepted Configuration sets by the rules is what it sets in these words
+  pub set-in-words : (R : Account) → Words p R → (calls : List Call) (c : Call) (r : Record) → Accepted p configuration c r → (t : Technology)
+      → (setBy ledgerKeeps p (r .set) (r .configuration) (held p calls) t ≡ true) ↔ Sets p R t calls c (settingsIn (r .configuration) t)
   set-in-words R w calls c r a t =
       let q = same (InForce p) R (in-words p) w (length calls) in
       let l : length calls ≤ length calls = omega arith in
-      let x = settingsIn (r .configuration) t in
-      let k = ap (λ (s : ℕ). names s t) (configured-set p (held p calls) c r a) ∙ names-set (setBy ledgerKeeps p (r .set) (r .configuration) (held p calls)) t in (
-        λ h. sets-same (InForce p) R (length calls) (q .0) (q .1) t calls c x l (ruled p t calls c r a (sym k ∙ h)),
-        λ s. k ∙ rule p t calls c r a x (sets-same R (InForce p) (length calls) (q .1) (q .0) t calls c x l s),
+      let x = settingsIn (r .configuration) t in (
+        λ h. sets-same (InForce p) R (length calls) (q .0) (q .1) t calls c x l (ruled p t calls c r a h),
+        λ s. rule p t calls c r a x (sets-same R (InForce p) (length calls) (q .1) (q .0) t calls c x l s),
       )

@@ -148,11 +148,11 @@ module _ (s : Session) where
 -- ---- a list of calls
 
 module _ (p : Profile) (v : validProfile p ≡ true) where
-  module _ (s : Session) (h : Tidy p s) (x : Event) (g : Does s (x .given) (x .step .answer) (x .step .session) (x .left)) where
-    next-tidy : Tidy p (x .step .session)
+  module _ (s : Session) (h : Tidy p s) (x : Event) (g : Does s (x .given) (x .answer) (x .session) (x .left)) where
+    next-tidy : Tidy p (x .session)
     next-tidy = subst (Tidy p) (sym (g .session)) (tidy-call p s h (x .given))
 
-    next-ledger : ledgerOf (x .step .session) ≡ after (ledgerOf s) (ledgerCall p (ledgerOf s) (x .given))
+    next-ledger : ledgerOf (x .session) ≡ after (ledgerOf s) (ledgerCall p (ledgerOf s) (x .given))
     next-ledger = ap ledgerOf (g .session) ∙ (sym (after-through s (sessionCall s (x .given))) ∙ ap (λ (o : Checked (Served Ledger)). after (ledgerOf s) o) (same-call p v s (h .profile) (x .given)))
 
     seen : seenOf x ≡ record { answer = answerTo (ledgerCall p (ledgerOf s) (x .given)); buffer = bufferAfter (ledgerCall p (ledgerOf s) (x .given)) (lent (x .given)) }
@@ -161,16 +161,16 @@ module _ (p : Profile) (v : validProfile p ≡ true) where
   pub answers-kept : (events : List Event) (s e : Session) → Tidy p s → Ran s events e → map seenOf events ≡ seenFrom (ledgerCall p) (ledgerOf s) (callsOf events)
   answers-kept [] s e h r = refl
   answers-kept (x ∷ events) s e h r =
-      let k = answers-kept events (x .step .session) e (next-tidy s h x (r .0)) (r .1) in
+      let k = answers-kept events (x .session) e (next-tidy s h x (r .0)) (r .1) in
       λ i. seen s h x (r .0) i ∷ (k ∙ ap (λ (l : Ledger). seenFrom (ledgerCall p) l (callsOf events)) (next-ledger s h x (r .0))) i
 
   pub ledger-kept : (events : List Event) (s e : Session) → Tidy p s → Ran s events e → ledgerOf e ≡ stateAfter (ledgerCall p) (ledgerOf s) (callsOf events)
   ledger-kept [] s e h r = ap ledgerOf (sym r)
-  ledger-kept (x ∷ events) s e h r = ledger-kept events (x .step .session) e (next-tidy s h x (r .0)) (r .1) ∙ ap (λ (l : Ledger). stateAfter (ledgerCall p) l (callsOf events)) (next-ledger s h x (r .0))
+  ledger-kept (x ∷ events) s e h r = ledger-kept events (x .session) e (next-tidy s h x (r .0)) (r .1) ∙ ap (λ (l : Ledger). stateAfter (ledgerCall p) l (callsOf events)) (next-ledger s h x (r .0))
 
   pub tidy-kept : (events : List Event) (s e : Session) → Tidy p s → Ran s events e → Tidy p e
   tidy-kept [] s e h r = subst (Tidy p) r h
-  tidy-kept (x ∷ events) s e h r = tidy-kept events (x .step .session) e (next-tidy s h x (r .0)) (r .1)
+  tidy-kept (x ∷ events) s e h r = tidy-kept events (x .session) e (next-tidy s h x (r .0)) (r .1)
 
 -- ---- the start
 

@@ -29,7 +29,7 @@ use Rattle.session.specs.declared.state.Step.{Step}
 use Rattle.session.specs.Technology.{Technology, uwb, cs, nan, rssi, among, names, setOf}
 use Rattle.session.specs.Rules.{validProfile, Call, message, advertisement, Kind, request, configuration, stop, other, kindOf, octetsOf, replied, shows, capabilityReply, Served, conclude, giveOut, configure, setBy, endedBy, halt, serve, call, after, answerTo}
 use Rattle.session.specs.Session.{yes, rangingIn, sessionKeeps, sessionCall, Gives, asProfile, profileOf}
-use Rattle.session.specs.Replies.{inBoth, delivery, Delivers, settle, Answers}
+use Rattle.session.specs.Replies.{inBoth, Delivers, settle, Answers}
 use Rattle.session.proofs.SetLaws.{set-below, names-set}
 
 -- a step with the same session
@@ -41,16 +41,15 @@ refusal s n = record { session = s; answer = record { refusal = n; length = 0; s
 
 -- ---- a valid reply is delivered
 
-pub delivered : {r : Record} {b e : List ℕ} {w : Written} → valid r ≡ true → Writes r b w e → Delivers (some r) b w e
-unfolding writing delivery
-delivered v h = record { answers = rw v at (h .answers); leaves = rw v at (h .leaves) }
+delivered : (r : Record) {b e : List ℕ} {w : Written} → valid r ≡ true → Writes r b w e → Delivers (some r) b w e
+unfolding writing
+delivered r v h = record { answers = rw v at (h .answers); leaves = rw v at (h .leaves) }
 
 pub set-delivered : (m : SetMessage) {set : ℕ} {b e : List ℕ} {w : Written} → set < 16 → Writes (setRecord m set) b w e → Delivers (some (setRecord m set)) b w e
-set-delivered m {set} l h = delivered (set-valid m set ∙ lt-ltb set 16 l) h
+set-delivered m {set} l h = delivered (setRecord m set) (set-valid m set ∙ lt-ltb set 16 l) h
 
 -- no reply needs no room
 pub silent : (b : List ℕ) → Delivers none b (record { refusal = 0; length = 0 }) b
-unfolding delivery
 silent b = record { answers = rw (le-leb 0 (length b) zero-le); leaves = rw (le-leb 0 (length b) zero-le) }
 
 -- fields that are valid where the profile names them are so where the reply does
@@ -83,17 +82,17 @@ module _ (p : Profile) (wanted : Technology → Bool) (v : validProfile p ≡ tr
       )
 
 -- the blocks that the code chooses, by the bits of two sets
-pub capabilities-delivered : (p : Profile) (wanted : ℕ) {set : ℕ} {b e : List ℕ} {w : Written} → validProfile p ≡ true
+capabilities-delivered : (p : Profile) (wanted : ℕ) {set : ℕ} {b e : List ℕ} {w : Written} → validProfile p ≡ true
     → set ≡ setOf (inBoth wanted (p .set))
     → Writes (response set (only set (p .capability))) b w e → Delivers (some (capabilityReply p (names wanted))) b w e
 unfolding shows
-capabilities-delivered p wanted v k h = delivered (reply-valid p (names wanted) v) (rw k at h)
+capabilities-delivered p wanted v k h = delivered (capabilityReply p (names wanted)) (reply-valid p (names wanted) v) (rw k at h)
 
 -- ---- and the call goes as the writer says
 
 module _ (v : Served Session) {b e : List ℕ} {w : Written} (d : Delivers (v .reply) b w e) where
   pub settled : Answers (conclude b v) b (settle w (v .set) (v .stopped)) e
-  unfolding conclude delivery replied
+  unfolding conclude replied
   settled = by-bool (leb (length (octetsOf (v .reply))) (length b))
       (λ t. record { answer = rw (d .answers, t); buffer = rw (d .leaves, t) })
       (λ f. record { answer = rw (d .answers, f); buffer = rw (d .leaves, f) })
@@ -104,7 +103,7 @@ module _ (s : Session) (wanted : ℕ) {blocks m : ℕ} {b e : List ℕ} {w : Wri
     (q : m ≡ cond (bit blocks 0 && eqb (w .refusal) 0) 0 (s .mark))
     (v : validProfile (s .profile) ≡ true) (h : Writes (response blocks (only blocks (s .profile .capability))) b w e) where
   pub given : Gives s (conclude b (giveOut sessionKeeps (s .profile) (names wanted) s)) b (record { session = record { profile = s .profile; uwb = s .uwb; nan = s .nan; rssi = s .rssi; mark = m }; answer = settle w 0 0 }) e
-  unfolding conclude delivery replied shows
+  unfolding conclude replied shows
   given = let f = shows (s .profile) (names wanted) in
       let d = capabilities-delivered (s .profile) wanted v k h in
       let x = ap (λ (n : ℕ). bit n 0) k ∙ names-set f uwb in
@@ -233,16 +232,11 @@ module _ (r : Record) (n : ℕ) where
 
   pub start-refused : fits ≡ false → profileOf r n ≡ refuse notValid
   unfolding profileOf
-  start-refused = go (eqb (r .id) 1 && valid r) (ltb n 3)
-    where
-      go : (x y : Bool) → (x && y) ≡ false → demand {A = Profile} x notValid (demand y notValid (accept (asProfile r n))) ≡ refuse notValid
-      go true true e = absurd (true≢false e)
-      go true false e = refl
-      go false y e = refl
+  start-refused h = rw h
 
   pub start-accepted : fits ≡ true → profileOf r n ≡ accept (asProfile r n)
   unfolding profileOf
-  start-accepted h = let x = and-true (eqb (r .id) 1 && valid r) (ltb n 3) h in rw (x .0, x .1)
+  start-accepted h = rw h
 
 -- what `start` tests
 pub start-tested : (r : Record) → ((eqb (r .id) 1 && valid (response (r .set) (r .capability))) && validColumn configurations 0 (r .configuration)) ≡ (eqb (r .id) 1 && valid r)

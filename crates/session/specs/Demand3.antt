@@ -1,17 +1,22 @@
--- Demand 3, of a list of calls from the session that an accepted start returned.
+-- Demand 3, of what calls of a session returned, or left behind a reference, and left in their buffers. `Does` is the contract of these
+-- calls, and `Ran` a list of them.
+use Prim.Native.Nat.{ℕ}
 use mathlib.Core.Path.{_≡_}
 use mathlib.Core.List.{List, _∷_, _++_, map}
 use mathlib.Core.Option.{some}
 use mathlib.Core.Logic.{_↔_}
 use mathlib.Core.Bool.{cond}
+use lib.ListN.{take}
+use Rattle.codec.specs.declared.records.Record.{Record}
 use Rattle.session.specs.declared.state.Profile.{Profile}
 use Rattle.session.specs.declared.state.Session.{Session}
+use Rattle.session.specs.declared.state.Started.{Started}
 use Rattle.session.specs.Technology.{Technology, uwb, nan, rssi, Settings}
 use Rattle.session.specs.Rules.{Call}
 use Rattle.session.specs.Ledger.{Ledger, nothing, ledgerCall, seenFrom, stateAfter}
 use Rattle.session.specs.History.{Account, Words, Reports}
-use Rattle.session.specs.Session.{inForceIn, uwbPart, nanPart, rssiPart}
-use Rattle.session.specs.Trace.{Event, seenOf, callsOf}
+use Rattle.session.specs.Session.{inForceIn, uwbPart, nanPart, rssiPart, asProfile, profileOf, started}
+use Rattle.session.specs.Trace.{Event, seenOf, Ran, callsOf}
 
 -- what the ledger holds after these calls
 abbrev pub held : Profile → List Call → Ledger
@@ -27,8 +32,8 @@ sessionOf p l = record {
   mark = cond (l uwb .mark) 1 0;
 }
 
--- `e` is the session after the calls
-pub record Demand3 (p : Profile) (events : List Event) (e : Session) : Type 1 where
+-- what holds of a list of calls from a fresh session with an accepted profile; `e` is the session after it
+pub record Upheld (p : Profile) (events : List Event) (e : Session) : Type 1 where
   -- Every answer and every reply buffer is the one that the ledger gives from the start and the calls alone.
   pub answers : map seenOf events ≡ seenFrom (ledgerCall p) nothing (callsOf events)
   -- At the end the session ranges with exactly what the ledger does, under the same settings.
@@ -41,5 +46,11 @@ pub record Demand3 (p : Profile) (events : List Event) (e : Session) : Type 1 wh
   pub only : (other : Account) → Words p other → (calls : List Call) (t : Technology) (x : Settings t) → other calls t x ↔ account calls t x
   -- it says what ranges after this list, and with which settings.
   pub says : (t : Technology) (x : Settings t) → (inForceIn e t ≡ some x) ↔ account (callsOf events) t x
-  -- The answer of each call names as set exactly what that call sets, and as stopped exactly what it ends.
-  pub reports : (before : List Event) (x : Event) (later : List Event) → events ≡ before ++ x ∷ later → Reports p account (callsOf before) (x .given) (x .step .answer)
+  -- Each call reports what it did, in its answer and in what it wrote.
+  pub reports : (before : List Event) (x : Event) (later : List Event) → events ≡ before ++ x ∷ later → Reports p account (callsOf before) (x .given) (x .answer) (take (x .answer .length) (x .left))
+
+-- of every list of calls, by value or by reference, each of which got the session that the one before returned or left and kept its
+-- contract, from the session that an accepted start returned
+abbrev pub Demand3 : Type 1
+Demand3 = (r : Record) (replies : ℕ) (x : Started) → x ≡ started (profileOf r replies) → x .refusal ≡ 0
+    → (events : List Event) (e : Session) → Ran (x .session) events e → Upheld (asProfile r replies) events e

@@ -4,13 +4,15 @@ use mathlib.Core.Path.{_≡_}
 use mathlib.Core.List.{List, [], _∷_, _++_}
 use mathlib.Core.Option.{Option, none, some}
 use mathlib.Core.Logic.{_↔_, _⊎_}
-use mathlib.Core.Bool.{true, false, cond}
+use mathlib.Core.Bool.{Bool, true, false, cond, _&&_}
 use lib.ListN.{length}
 use Rattle.codec.specs.Refusal.{Checked, refuse, accept}
+use Rattle.codec.specs.Records.{setRecord}
 use Rattle.codec.specs.Message.{reading}
 use Rattle.codec.specs.WellFormed.{Each, Has}
 use Rattle.codec.specs.NormalForm.{blocksOf, normal}
 use Rattle.codec.specs.declared.records.Record.{Record}
+use Rattle.codec.specs.declared.records.SetMessage.{SetMessage}
 use Rattle.session.specs.declared.state.Profile.{Profile}
 use Rattle.session.specs.declared.state.Answer.{Answer}
 use Rattle.session.specs.Technology.{Technology, idOf, Settings, settingsIn, capabilityIn, names, ranges, bars, within}
@@ -33,8 +35,8 @@ heard (advertisement b) = none
 
 -- none of the later calls does it, each taken after those before it
 abbrev pub Never : {A : Type 0} → (List Call → Call → A → Type 0) → List Call → List Call → Type 0
-Never Does before [] = Unit {0}
-Never {A} Does before (c ∷ later) = ((x : A) → Does before c x → ⊥) × Never Does (before ++ c ∷ []) later
+Never P before [] = Unit {0}
+Never {A} P before (c ∷ later) = ((x : A) → P before c x → ⊥) × Never P (before ++ c ∷ []) later
 
 module _ (p : Profile) where
   -- the reply fits the buffer: messages 3 and 7 have four octets, and with explicit replies off none
@@ -63,6 +65,24 @@ module _ (p : Profile) where
   pub data GivesOut (t : Technology) (c : Call) : Type 0 where
     inReply : (r : Record) → Accepted request c r → Has (idOf t) (blocksOf (capabilityReply p (names (r .set)))) → GivesOut t c
     inAdvertisement : Advertised c → Has (idOf t) (blocksOf (capabilityReply p (λ t. true))) → GivesOut t c
+
+  -- a call that counts: refused ones do not
+  abbrev pub Counts : Call → Type 0
+  Counts c = ((k : Kind) × ((r : Record) × Accepted k c r)) ⊎ Advertised c
+
+  -- ---- what is written
+
+  -- a Capability Response that names what is wanted and the profile has, with the profile's own fields
+  pub record Shows (wanted : Technology → Bool) (wrote : List ℕ) : Type 0 where
+    pub reply : Record
+    pub octets : wrote ≡ normal reply
+    pub id : reply .id ≡ 1
+    pub set : (t : Technology) → names (reply .set) t ≡ wanted t && names (p .set) t
+    pub fields : (t : Technology) → names (reply .set) t ≡ true → capabilityIn (reply .capability) t ≡ capabilityIn (p .capability) t
+
+  -- an explicit reply that says a set; nothing with explicit replies off
+  abbrev pub saying : SetMessage → ℕ → List ℕ
+  saying m set = cond (explicit (p .replies)) (normal (setRecord m set)) []
 
   -- ---- the words, of any account
 
@@ -107,7 +127,15 @@ module _ (p : Profile) where
       pub told : (t : Technology) → ranges t ≡ true → (calls : List Call) (x : Settings t) → Ranges calls t x ↔ LastSet t calls x
       pub never : (t : Technology) → ranges t ≡ false → (calls : List Call) (x : Settings t) → Ranges calls t x → ⊥
 
-    -- an answer names as set exactly what its call sets, and as stopped exactly what its call ends
-    pub record Reports (calls : List Call) (c : Call) (a : Answer) : Type 0 where
+    -- what a call that comes after these reports to firmware and phone, by its answer and the octets that it wrote
+    pub record Reports (calls : List Call) (c : Call) (a : Answer) (wrote : List ℕ) : Type 0 where
+      -- it is not refused exactly if it counts
+      pub accepted : (a .refusal ≡ 0) ↔ Counts c
+      -- the answer names as set exactly what the call sets, and as stopped exactly what it ends
       pub set : (t : Technology) → (names (a .set) t ≡ true) ↔ ((x : Settings t) × Sets t calls c x)
       pub stopped : (t : Technology) → (names (a .stopped) t ≡ true) ↔ Ends t calls c
+      -- message 1 shows what was asked for, or all; message 3 says what was set and message 7 what stopped
+      pub asked : (r : Record) → Accepted request c r → Shows (names (r .set)) wrote
+      pub advertised : Advertised c → Shows (λ t. true) wrote
+      pub configured : (r : Record) → Accepted configuration c r → wrote ≡ saying SetMessage.ConfigurationResponse (a .set)
+      pub halted : (r : Record) → Accepted stop c r → wrote ≡ saying SetMessage.StopResponse (a .stopped)

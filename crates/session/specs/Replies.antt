@@ -4,10 +4,10 @@ use mathlib.Core.Path.{_≡_}
 use mathlib.Core.List.{List}
 use mathlib.Core.Option.{Option}
 use mathlib.Core.Bool.{Bool, cond, _&&_}
-use lib.Dec.{eqb, leb}
+use lib.Dec.{eqb}
 use lib.ListN.{length}
-use Rattle.codec.specs.Refusal.{Checked, accept, demand, bufferTooShort}
-use Rattle.codec.specs.Writing.{written, buffer}
+use Rattle.codec.specs.Refusal.{Checked}
+use Rattle.codec.specs.Writing.{fitting, LaysOut}
 use Rattle.codec.specs.declared.records.Record.{Record}
 use Rattle.codec.specs.declared.records.Written.{Written}
 use Rattle.session.specs.declared.state.Session.{Session}
@@ -19,13 +19,9 @@ use Rattle.session.specs.Rules.{octetsOf, Served, answerTo, bufferAfter}
 abbrev pub inBoth : ℕ → ℕ → Technology → Bool
 inBoth a b t = names a t && names b t
 
--- the octets of a reply into a buffer of n octets
-unfoldable pub delivery : Option Record → ℕ → Checked (List ℕ)
-delivery r n = demand (leb (length (octetsOf r)) n) bufferTooShort (accept (octetsOf r))
-
-pub record Delivers (r : Option Record) (b : List ℕ) (w : Written) (e : List ℕ) : Type 0 where
-  pub answers : w ≡ written (delivery r (length b))
-  pub leaves : e ≡ buffer (delivery r (length b)) b
+-- the octets of a reply, into a buffer
+abbrev pub Delivers : Option Record → List ℕ → Written → List ℕ → Type 0
+Delivers r b w e = LaysOut (fitting (octetsOf r) (length b)) b w e
 
 -- the answer of a call that sets and stops these once its reply is delivered, or refused
 abbrev pub settle : Written → ℕ → ℕ → Answer

@@ -100,7 +100,7 @@ pub record Keeps (S : Type 0) : Type 0 where
   pub stop : (Technology → Bool) → S → S
 
 module _ {S : Type 0} (K : Keeps S) (p : Profile) where
-  -- Capability Responses take the mark where they show UWB; nothing is set or stopped
+  -- Capability Responses take the mark away where they show UWB; nothing is set or stopped
   abbrev pub giveOut : (Technology → Bool) → S → Served S
   giveOut wanted s = record {
     state = K .give (shows p wanted) s;
@@ -152,7 +152,7 @@ abbrev pub answerTo : {S : Type 0} → Checked (Served S) → Answer
 answerTo (refuse x) = record { refusal = numberOf x; length = 0; set = 0; stopped = 0 }
 answerTo (accept v) = record { refusal = 0; length = length (octetsOf (v .reply)); set = v .set; stopped = v .stopped }
 
--- and leaves the buffer
+-- the buffer afterwards: a refusal leaves it
 abbrev pub bufferAfter : {S : Type 0} → Checked (Served S) → List ℕ → List ℕ
 bufferAfter (refuse x) b = b
 bufferAfter (accept v) b = replied (v .reply) b

@@ -110,9 +110,7 @@ asProfile r replies = record { set = r .set; replies = replies; capability = r .
 -- a profile is a valid record of message 1 with one of the three reply choices
 unfoldable pub profileOf : Record → ℕ → Checked Profile
 profileOf r replies =
-    demand (eqb (r .id) 1 && valid r) notValid
-    (demand (ltb replies 3) notValid
-    (accept (asProfile r replies)))
+    demand ((eqb (r .id) 1 && valid r) && ltb replies 3) notValid (accept (asProfile r replies))
 
 -- a refused start returns a fresh session with an empty profile, replies not said
 abbrev pub started : Checked Profile → Started
