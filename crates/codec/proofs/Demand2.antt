@@ -15,8 +15,8 @@ use Rattle.codec.specs.Records.{accepted, answer}
 use Rattle.codec.specs.WellFormed.{WellFormed}
 use Rattle.codec.specs.Valid.{TypedRecord, valid}
 use Rattle.codec.specs.NormalForm.{normal, NormalForm}
-use Rattle.codec.specs.Writing.{fitting, writing, written, buffer, Writes, WritesTyped, octetsWritten}
-use Rattle.codec.specs.Demand2.{WroteNormal, Demand2}
+use Rattle.codec.specs.Writing.{fitting, writing, written, buffer, Writes, octetsWritten}
+use Rattle.codec.specs.Demand2.{Demand2}
 use Rattle.codec.specs.declared.records.Record.{Record}
 use Rattle.codec.specs.declared.records.Reading.{Reading}
 use Rattle.codec.specs.declared.records.Written.{Written}
@@ -82,7 +82,7 @@ demand-2 = record {
   exact = λ m a h r. subst (λ (b : Reading). (b ≡ accepted r) ↔ WellFormed m r) (sym (h .answers)) (exact m (h .octets) r);
   writes = λ r d e w h v l. let z = fitted r (h .writes) v l .0 in record {
     accepted = z;
-    length = fitted r (h .writes) v l .1;
+    size = fitted r (h .writes) v l .1;
     octets = wrote r (h .writes) z .1;
     form = normal-normal r (h .typed) v;
   };

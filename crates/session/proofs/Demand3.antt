@@ -1,10 +1,8 @@
 -- Demand 3, over every list of calls that keep their contracts, from the session that an accepted start returned.
 use Prim.Native.Nat.{ℕ}
 use mathlib.Core.Path.{_≡_, refl, sym, ap, subst, _∙_}
-use mathlib.Core.List.{List, _∷_, _++_, map}
-use mathlib.Core.Option.{some}
-use mathlib.Core.Logic.{_↔_}
-use mathlib.Core.Bool.{true, false, _&&_}
+use mathlib.Core.List.{List, map}
+use mathlib.Core.Bool.{true, _&&_}
 use lib.Dec.{eqb, ltb}
 use Rattle.codec.specs.Refusal.{notValid}
 use Rattle.codec.specs.Records.{capabilities, configurations}
@@ -16,7 +14,7 @@ use Rattle.codec.proofs.ValidCases.{response-valid}
 use Rattle.session.specs.declared.state.Profile.{Profile}
 use Rattle.session.specs.declared.state.Session.{Session}
 use Rattle.session.specs.declared.state.Started.{Started}
-use Rattle.session.specs.Technology.{Technology, Settings}
+use Rattle.session.specs.Technology.{Technology}
 use Rattle.session.specs.Rules.{validProfile}
 use Rattle.session.specs.Ledger.{Ledger, nothing, ledgerCall, seenFrom}
 use Rattle.session.specs.Session.{inForceIn, fresh, asProfile, started}

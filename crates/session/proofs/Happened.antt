@@ -18,7 +18,7 @@ use Rattle.codec.proofs.Outcomes.{by-bool}
 use Rattle.codec.proofs.Pieces.{normal-set}
 use Rattle.session.specs.declared.state.Profile.{Profile}
 use Rattle.session.specs.Technology.{names, setOf}
-use Rattle.session.specs.Rules.{Call, message, advertisement, Kind, request, configuration, stop, other, kindOf, explicit, octetsOf, shows, capabilityReply, Served, conclude, giveOut, configure, halt, setBy, endedBy, serve, call, answerTo}
+use Rattle.session.specs.Rules.{Call, message, advertisement, Kind, request, configuration, stop, other, kindOf, explicit, octetsOf, capabilityReply, Served, conclude, giveOut, configure, halt, setBy, endedBy, serve, call}
 use Rattle.session.specs.Ledger.{Ledger, ledgerKeeps, ledgerCall}
 use Rattle.session.specs.History.{accepted, heard, Fits, Accepted, Advertised}
 

@@ -4,11 +4,11 @@ use native.Mathlib.Omega.{arith}
 use mathlib.Core.Path.{_≡_, refl, sym, ap, subst, _∙_}
 use mathlib.Core.List.{List, [], _∷_, _++_, append-assoc}
 use mathlib.Core.Option.{Option, none, some, Option·none-ne-some}
-use mathlib.Core.Logic.{_↔_, _⊎_, inl, inr}
+use mathlib.Core.Logic.{_↔_, inl, inr}
 use mathlib.Core.Bool.{Bool, true, false, cond, not, _&&_, true≢false, and-true as Bool·and-true, and-false, or-true, or-false}
 use lib.ListN.{length, length-append}
 use borrow.Author.Tests.{not-true}
-use Rattle.codec.specs.Refusal.{Checked, refuse, accept, Refusal}
+use Rattle.codec.specs.Refusal.{Checked}
 use Rattle.codec.specs.Records.{only}
 use Rattle.codec.specs.WellFormed.{Has}
 use Rattle.codec.specs.NormalForm.{blocksOf}
@@ -52,12 +52,9 @@ abbrev flagged : Bool → Option (Unit {0})
 flagged true = some tt
 flagged false = none
 
--- the state after an accepted call, and after a refused one
-moved : (l : Ledger) {o : Checked (Served Ledger)} {v : Served Ledger} → o ≡ accept v → after l o ≡ v .state
+-- the state after a call that leads to `q`
+moved : (l : Ledger) {o q : Checked (Served Ledger)} → o ≡ q → after l o ≡ after l q
 moved l e = ap (λ (o : Checked (Served Ledger)). after l o) e
-
-left-as : (l : Ledger) {o : Checked (Served Ledger)} {x : Refusal} → o ≡ refuse x → after l o ≡ l
-left-as l e = ap (λ (o : Checked (Served Ledger)). after l o) e
 
 below-4 : (t : Technology) → idOf t < 4
 below-4 uwb = omega arith
@@ -108,7 +105,7 @@ module _ (p : Profile) where
 
       turn-mark : Happened p l c → Turn mark Puts (GivesOut p t) before c
       unfolding endedBy
-      turn-mark (refused x e na nd) = left (ap (λ (k : Ledger). k t .mark) (left-as l e)) none-given (λ h. na stop (h .ends .stops .content) (h .ends .stops .accepted))
+      turn-mark (refused x e na nd) = left (ap (λ (k : Ledger). k t .mark) (moved l e)) none-given (λ h. na stop (h .ends .stops .content) (h .ends .stops .accepted))
         where
           none-given : GivesOut p t c → ⊥
           none-given (inReply r a h) = na request r a
@@ -217,7 +214,7 @@ module _ (p : Profile) where
 
         turn-force : Happened p k c → Moves
         unfolding endedBy
-        turn-force (refused x e na nd) = leaves (ap (λ (m : Ledger). m t .inForce) (left-as k e)) (λ s. na stop (s .content) (s .accepted)) (λ x s. na configuration (s .content) (s .accepted))
+        turn-force (refused x e na nd) = leaves (ap (λ (m : Ledger). m t .inForce) (moved k e)) (λ s. na stop (s .content) (s .accepted)) (λ x s. na configuration (s .content) (s .accepted))
         turn-force (asked r a e) = leaves (ap (λ (m : Ledger). m t .inForce) (moved k e)) (λ s. no-request-stop a (s .accepted)) (λ x s. no-request-configuration a (s .accepted))
         turn-force (advertised d e) = leaves (ap (λ (m : Ledger). m t .inForce) (moved k e)) (λ s. no-advertisement d (s .accepted)) (λ x s. no-advertisement d (s .accepted))
         turn-force (configured r a e) = by-bool (setBy ledgerKeeps p (r .set) (r .configuration) k t)
@@ -252,7 +249,7 @@ module _ (p : Profile) where
       none-of false h = h
 
       stays-none : (l : Ledger) (c : Call) → l t .inForce ≡ none → Happened p l c → after l (ledgerCall p l c) t .inForce ≡ none
-      stays-none l c h (refused x e na nd) = ap (λ (m : Ledger). m t .inForce) (left-as l e) ∙ h
+      stays-none l c h (refused x e na nd) = ap (λ (m : Ledger). m t .inForce) (moved l e) ∙ h
       stays-none l c h (asked r a e) = ap (λ (m : Ledger). m t .inForce) (moved l e) ∙ h
       stays-none l c h (advertised d e) = ap (λ (m : Ledger). m t .inForce) (moved l e) ∙ h
       stays-none l c h (configured r a e) = ap (λ (m : Ledger). m t .inForce) (moved l e) ∙ (rw still h)

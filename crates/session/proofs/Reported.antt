@@ -2,26 +2,25 @@
 use Prim.Native.Nat.{ℕ}
 use mathlib.Core.Path.{_≡_, refl, sym, ap, subst, _∙_}
 use mathlib.Core.List.{List, [], _∷_, _++_, map}
-use mathlib.Core.Option.{Option, none, some}
-use mathlib.Core.Logic.{_↔_, inl, inr}
+use mathlib.Core.Option.{none, some}
+use mathlib.Core.Logic.{inl, inr}
 use mathlib.Core.Bool.{Bool, true, false, cond, true≢false}
 use lib.ListN.{length, take}
 use lib.Seq.{take-at}
-use Rattle.codec.specs.Refusal.{Checked, refuse, accept}
+use Rattle.codec.specs.Refusal.{Checked, accept}
 use Rattle.codec.specs.Records.{only}
 use Rattle.codec.specs.NormalForm.{normal}
 use Rattle.codec.specs.declared.records.Capability.{Capability}
 use Rattle.codec.specs.declared.records.Record.{Record}
 use Rattle.codec.proofs.Outcomes.{and-true, no-zero}
 use Rattle.session.specs.declared.state.Profile.{Profile}
-use Rattle.session.specs.declared.state.Answer.{Answer}
 use Rattle.session.specs.Technology.{Technology, uwb, cs, nan, rssi, Settings, settingsIn, capabilityIn, names, setOf}
-use Rattle.session.specs.Rules.{Call, lent, Kind, request, configuration, stop, explicit, octetsOf, replied, shows, capabilityReply, Served, after, giveOut, configure, endedBy, halt, setBy, answerTo, bufferAfter}
+use Rattle.session.specs.Rules.{Call, lent, request, configuration, stop, explicit, octetsOf, replied, shows, capabilityReply, Served, after, giveOut, configure, endedBy, halt, setBy, answerTo, bufferAfter}
 use Rattle.session.specs.Ledger.{Ledger, nothing, isSome, ledgerKeeps, ledgerCall, Seen, seenFrom, stateAfter}
-use Rattle.session.specs.History.{Account, Accepted, Advertised, Counts, Shows, Sets, Words, Reports}
+use Rattle.session.specs.History.{Account, Counts, Shows, Sets, Words, Reports}
 use Rattle.session.specs.Trace.{Event, seenOf, callsOf}
 use Rattle.session.specs.Demand3.{held}
-use Rattle.session.proofs.SetLaws.{names-set}
+use Rattle.session.proofs.SetLaws.{set-below, names-set}
 use Rattle.session.proofs.Happened.{Happened, refused, asked, advertised, configured, stopped, happened, same-content, no-request-stop, no-request-configuration, no-configuration-stop, no-advertisement}
 use Rattle.session.proofs.InWords.{InForce, in-words, words-decide, set-in-words, some-of, both, is-some}
 
@@ -56,6 +55,7 @@ shown p wanted e = record {
   reply = capabilityReply p wanted;
   octets = e;
   id = refl;
+  known = set-below (shows p wanted);
   set = names-set (shows p wanted);
   fields = kept (setOf (shows p wanted)) (p .capability);
 }

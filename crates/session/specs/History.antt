@@ -1,5 +1,5 @@
 -- Demand 3 in the customer's words: what ranges after a list of calls, told by splitting the list at the calls that decide.
-use Prim.Native.Nat.{ℕ, _≤_}
+use Prim.Native.Nat.{ℕ, _≤_, _<_}
 use mathlib.Core.Path.{_≡_}
 use mathlib.Core.List.{List, [], _∷_, _++_}
 use mathlib.Core.Option.{Option, none, some}
@@ -72,11 +72,12 @@ module _ (p : Profile) where
 
   -- ---- what is written
 
-  -- a Capability Response that names what is wanted and the profile has, with the profile's own fields
+  -- a Capability Response that names what is wanted and the profile has, and nothing else, with the profile's own fields
   pub record Shows (wanted : Technology → Bool) (wrote : List ℕ) : Type 0 where
     pub reply : Record
     pub octets : wrote ≡ normal reply
     pub id : reply .id ≡ 1
+    pub known : reply .set < 16
     pub set : (t : Technology) → names (reply .set) t ≡ wanted t && names (p .set) t
     pub fields : (t : Technology) → names (reply .set) t ≡ true → capabilityIn (reply .capability) t ≡ capabilityIn (p .capability) t
 
