@@ -2,6 +2,7 @@ pub mod Laws
 pub mod Types
 pub mod Outcomes
 pub mod Bits
+pub mod SetLaws
 pub mod BlockCases
 pub mod Layouts
 pub mod Puts

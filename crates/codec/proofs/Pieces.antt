@@ -24,12 +24,9 @@ use Rattle.codec.specs.declared.records.SetMessage.{SetMessage}
 use Rattle.codec.specs.declared.records.Written.{Written}
 use Rattle.codec.proofs.Outcomes.{and-true}
 use Rattle.codec.proofs.Layouts.{fits, within, within-le}
+use Rattle.codec.proofs.SetLaws.{cond-le}
 use Rattle.codec.proofs.Puts.{put-then}
 use Rattle.codec.proofs.ValidCases.{set-assigned, only-of, settings-of, bare-valid, bare-of}
-
-pub cond-le : (b : Bool) (n : ℕ) → cond b n 0 ≤ n
-cond-le true n = omega arith
-cond-le false n = omega arith
 
 module _ {A : Type 0} (C : Column A) (set : ℕ) (a : A) where
   rising-step : (n id : ℕ) → flatten (rising C set a (suc n) id) ≡ blockIf (bit set id) (C .layouts id) id (C .fields a id) ++ flatten (rising C set a n (suc id))

@@ -1,7 +1,7 @@
 -- Records: the structs of the code as columns of 01's table. A record does not hold the version.
 use Prim.Native.Nat.{ℕ, zero, suc}
 use mathlib.Core.Bool.{cond}
-use Rattle.codec.specs.Technology.{bit}
+use Rattle.codec.specs.Technology.{Technology, uwb, cs, nan, rssi, bit}
 use Rattle.codec.specs.Layout.{Layout, Values, zeroes}
 use Rattle.codec.specs.Blocks.{uwbCapability, csCapability, nanCapability, uwbConfiguration, csConfiguration, nanConfiguration, rssiBlock, capabilityBlock, configurationBlock}
 use Rattle.codec.specs.Refusal.{Checked, refuse, accept, numberOf}
@@ -124,6 +124,33 @@ configurations = record {
 -- all fields zero
 abbrev pub blank : {A : Type 0} → Column A → A
 blank C = C .make (λ id. zeroes (C .layouts id))
+
+-- ---- what a technology's block says in message 1, and in message 2
+
+abbrev pub CapabilityOf : Technology → Type 0
+CapabilityOf uwb = UwbCapability
+CapabilityOf cs = CsCapability
+CapabilityOf nan = NanCapability
+CapabilityOf rssi = Rssi
+
+abbrev pub capabilityIn : Capability → (t : Technology) → CapabilityOf t
+capabilityIn k uwb = k .uwb
+capabilityIn k cs = k .cs
+capabilityIn k nan = k .nan
+capabilityIn k rssi = k .rssi
+
+-- settings are all fields of the technology's block in message 2
+abbrev pub Settings : Technology → Type 0
+Settings uwb = UwbConfiguration
+Settings cs = CsConfiguration
+Settings nan = NanConfiguration
+Settings rssi = Rssi
+
+abbrev pub settingsIn : Configuration → (t : Technology) → Settings t
+settingsIn c uwb = c .uwb
+settingsIn c cs = c .cs
+settingsIn c nan = c .nan
+settingsIn c rssi = c .rssi
 
 -- ---- records of one message
 

@@ -1,9 +1,18 @@
-// Sets of technologies: a 16-bit number with bit n for ID n.
+// Technologies by their IDs, and sets of them: a 16-bit number with bit n for ID n.
 ghost use mathlib.Core.Path.{_≡_};
-ghost use mathlib.Core.Bool.{true, _&&_, not};
-ghost use Prim.Native.Nat.{ℕ, _<_};
+ghost use mathlib.Core.Bool.{true, _&&_, not, cond};
+ghost use mathlib.Core.List.{[], _∷_};
+ghost use Prim.Native.Nat.{ℕ, _<_, _≤_};
 ghost use lib.Dec.{eqb};
-ghost use Rattle.codec.specs.Technology.{bit};
+ghost use Rattle.codec.specs.Technology.{bit, ofBits, naming, inBoth};
+
+pub const UWB: u8 = 0;
+
+pub const CS: u8 = 1;
+
+pub const NAN: u8 = 2;
+
+pub const RSSI: u8 = 3;
 
 // Whether a set has the bit of an ID.
 pub fn has(set: u16, id: u8) -> bool
@@ -21,4 +30,35 @@ pub(crate) fn without(set: u16, id: u8) -> u16
     ensures { λ r. ⌜ ((j : ℕ) → bit r j ≡ (bit set j && not (eqb j id))) ⌝ }
 {
     set ^ (1 << id)
+}
+
+// A set, or none.
+pub fn set_if(on: bool, set: u16) -> u16
+    ensures { λ r. ⌜ (r ≡ cond on set 0) × (r ≤ set) ⌝ }
+{
+    if on { set } else { 0 }
+}
+
+// The set of the technologies of which it is true.
+pub fn set_of(uwb: bool, cs: bool, nan: bool, rssi: bool) -> u16
+    ensures { λ r. ⌜ r ≡ ofBits (uwb ∷ cs ∷ nan ∷ rssi ∷ []) ⌝ }
+{
+    set_if(uwb, 1) + (set_if(cs, 2) + (set_if(nan, 4) + set_if(rssi, 8)))
+}
+
+// Whether two sets both have the bit of an ID.
+pub fn both_have(a: u16, b: u16, id: u8) -> bool
+    ensures { λ r. ⌜ r ≡ (bit a id && bit b id) ⌝ }
+{
+    has(a, id) & has(b, id)
+}
+
+// The technologies in both of two sets.
+pub fn common(a: u16, b: u16) -> u16
+    ensures { λ r. ⌜ r ≡ naming (inBoth a b) ⌝ }
+{
+    let uwb = both_have(a, b, UWB);
+    let cs = both_have(a, b, CS);
+    let nan = both_have(a, b, NAN);
+    set_of(uwb, cs, nan, both_have(a, b, RSSI))
 }

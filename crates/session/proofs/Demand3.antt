@@ -14,7 +14,7 @@ use Rattle.codec.proofs.ValidCases.{response-valid}
 use Rattle.session.specs.declared.state.Profile.{Profile}
 use Rattle.session.specs.declared.state.Session.{Session}
 use Rattle.session.specs.declared.state.Started.{Started}
-use Rattle.session.specs.Technology.{Technology}
+use Rattle.codec.specs.Technology.{Technology}
 use Rattle.session.specs.Rules.{validProfile}
 use Rattle.session.specs.Ledger.{Ledger, nothing, ledgerCall, seenFrom}
 use Rattle.session.specs.Session.{inForceIn, fresh, asProfile, started}

@@ -17,7 +17,7 @@ use Rattle.codec.specs.declared.records.SetMessage.{SetMessage}
 use Rattle.codec.proofs.Outcomes.{by-bool}
 use Rattle.codec.proofs.Pieces.{normal-set}
 use Rattle.session.specs.declared.state.Profile.{Profile}
-use Rattle.session.specs.Technology.{names, setOf}
+use Rattle.codec.specs.Technology.{names, naming}
 use Rattle.session.specs.Rules.{Call, message, advertisement, Kind, request, configuration, stop, other, kindOf, explicit, octetsOf, capabilityReply, Served, conclude, giveOut, configure, halt, setBy, endedBy, serve, call}
 use Rattle.session.specs.Ledger.{Ledger, ledgerKeeps, ledgerCall}
 use Rattle.session.specs.History.{accepted, heard, Fits, Accepted, Advertised}
@@ -107,13 +107,13 @@ module _ (p : Profile) (l : Ledger) (b : List ℕ) where
         (λ y. asked r (record { says = says; kind = h; room = y }) (to request h ∙ fits b _ y))
         (λ n. refused bufferTooShort (to request h ∙ fits-not b _ n) (unaccepted request h (λ y. omega (arith, n, y))) unadvertised)
     by-kind configuration h =
-        let set = setOf (setBy ledgerKeeps p (r .set) (r .configuration) l) in
+        let set = naming (setBy ledgerKeeps p (r .set) (r .configuration) l) in
         let z = reply-length (explicit (p .replies)) SetMessage.ConfigurationResponse set in
         by-room (cond (explicit (p .replies)) 4 0) (length b)
         (λ y. configured r (record { says = says; kind = h; room = y }) (to configuration h ∙ fits b _ (rw z y)))
         (λ n. refused bufferTooShort (to configuration h ∙ fits-not b _ (rw z n)) (unaccepted configuration h (λ y. omega (arith, n, y))) unadvertised)
     by-kind stop h =
-        let set = setOf (endedBy ledgerKeeps p (r .set) l) in
+        let set = naming (endedBy ledgerKeeps p (r .set) l) in
         let z = reply-length (explicit (p .replies)) SetMessage.StopResponse set in
         by-room (cond (explicit (p .replies)) 4 0) (length b)
         (λ y. stopped r (record { says = says; kind = h; room = y }) (to stop h ∙ fits b _ (rw z y)))

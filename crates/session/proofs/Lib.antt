@@ -1,4 +1,3 @@
-pub mod SetLaws
 pub mod Steps
 pub mod Simulation
 pub mod Lists

@@ -15,7 +15,7 @@ use Rattle.session.specs.declared.state.UwbState.{UwbState}
 use Rattle.session.specs.declared.state.NanState.{NanState}
 use Rattle.session.specs.declared.state.RssiState.{RssiState}
 use Rattle.session.specs.declared.state.Session.{Session}
-use Rattle.session.specs.Technology.{Technology, uwb, cs, nan, rssi, names}
+use Rattle.codec.specs.Technology.{Technology, uwb, cs, nan, rssi, names}
 use Rattle.session.specs.Rules.{Call, message, advertisement, lent, Kind, request, configuration, stop, other, kindOf, octetsOf, validProfile, shows, Served, conclude, after, giveOut, configure, setBy, endedBy, halt, serve, call, answerTo, bufferAfter}
 use Rattle.session.specs.Ledger.{Ledger, nothing, ledgerKeeps, ledgerCall, seenFrom, stateAfter}
 use Rattle.session.specs.Session.{yes, inForceIn, markIn, uwbPart, nanPart, rssiPart, sessionKeeps, sessionCall, Does, fresh}

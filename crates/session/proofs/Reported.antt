@@ -8,19 +8,19 @@ use mathlib.Core.Bool.{Bool, true, false, cond, true≢false}
 use lib.ListN.{length, take}
 use lib.Seq.{take-at}
 use Rattle.codec.specs.Refusal.{Checked, accept}
-use Rattle.codec.specs.Records.{only}
 use Rattle.codec.specs.NormalForm.{normal}
 use Rattle.codec.specs.declared.records.Capability.{Capability}
 use Rattle.codec.specs.declared.records.Record.{Record}
 use Rattle.codec.proofs.Outcomes.{and-true, no-zero}
 use Rattle.session.specs.declared.state.Profile.{Profile}
-use Rattle.session.specs.Technology.{Technology, uwb, cs, nan, rssi, Settings, settingsIn, capabilityIn, names, setOf}
+use Rattle.codec.specs.Technology.{Technology, uwb, cs, nan, rssi, names, naming}
+use Rattle.codec.specs.Records.{Settings, settingsIn, capabilityIn, only}
 use Rattle.session.specs.Rules.{Call, lent, request, configuration, stop, explicit, octetsOf, replied, shows, capabilityReply, Served, after, giveOut, configure, endedBy, halt, setBy, answerTo, bufferAfter}
 use Rattle.session.specs.Ledger.{Ledger, nothing, isSome, ledgerKeeps, ledgerCall, Seen, seenFrom, stateAfter}
 use Rattle.session.specs.History.{Account, Counts, Shows, Sets, Words, Reports}
 use Rattle.session.specs.Trace.{Event, seenOf, callsOf}
 use Rattle.session.specs.Demand3.{held}
-use Rattle.session.proofs.SetLaws.{set-below, names-set}
+use Rattle.codec.proofs.SetLaws.{naming-below, names-naming}
 use Rattle.session.proofs.Happened.{Happened, refused, asked, advertised, configured, stopped, happened, same-content, no-request-stop, no-request-configuration, no-configuration-stop, no-advertisement}
 use Rattle.session.proofs.InWords.{InForce, in-words, words-decide, set-in-words, some-of, both, is-some}
 
@@ -55,9 +55,9 @@ shown p wanted e = record {
   reply = capabilityReply p wanted;
   octets = e;
   id = refl;
-  known = set-below (shows p wanted);
-  set = names-set (shows p wanted);
-  fields = kept (setOf (shows p wanted)) (p .capability);
+  known = naming-below (shows p wanted);
+  set = names-naming (shows p wanted);
+  fields = kept (naming (shows p wanted)) (p .capability);
 }
 
 module _ (p : Profile) (R : Account) (w : Words p R) (calls : List Call) (c : Call) where
@@ -103,7 +103,7 @@ module _ (p : Profile) (R : Account) (w : Words p R) (calls : List Call) (c : Ca
   })
   told (configured r a e) = subst Told (sym e) (record {
     accepted = (λ z. inl (configuration, (r, a)), λ k. refl);
-    set = λ t. let q = set-in-words p R w calls c r a t in let k = names-set (setBy ledgerKeeps p (r .set) (r .configuration) l) t in (
+    set = λ t. let q = set-in-words p R w calls c r a t in let k = names-naming (setBy ledgerKeeps p (r .set) (r .configuration) l) t in (
       λ i. (settingsIn (r .configuration) t, q .0 (sym k ∙ i)),
       λ s. k ∙ q .1 (subst (λ (y : Settings t). Sets p R t calls c y) (sym (s .1 .settings) ∙ ap (λ (x : Record). settingsIn (x .configuration) t) (same-content (s .1 .accepted) a)) (s .1)),
     );
@@ -116,7 +116,7 @@ module _ (p : Profile) (R : Account) (w : Words p R) (calls : List Call) (c : Ca
   told (stopped r a e) = subst Told (sym e) (record {
     accepted = (λ z. inl (stop, (r, a)), λ k. refl);
     set = λ t. (nobody t, λ s. absurd (no-configuration-stop (s .1 .accepted) a));
-    stopped = λ t. let k = names-set (endedBy ledgerKeeps p (r .set) l) t in (
+    stopped = λ t. let k = names-naming (endedBy ledgerKeeps p (r .set) l) t in (
       λ i. let z = and-true (names (r .set) t) (isSome (l t .inForce)) (sym k ∙ i) in
           some-of (l t .inForce) (z .1) (λ x q. record { stops = record { content = r; accepted = a; named = z .0 }; settings = x; ranged = words-decide p (InForce p) R (in-words p) w calls t x .0 q }),
       λ s. k ∙ both (ap (λ (x : Record). names (x .set) t) (same-content a (s .stops .accepted)) ∙ s .stops .named) (is-some (words-decide p (InForce p) R (in-words p) w calls t (s .settings) .1 (s .ranged))),

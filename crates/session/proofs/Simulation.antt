@@ -18,7 +18,7 @@ use Rattle.session.specs.declared.state.UwbState.{UwbState}
 use Rattle.session.specs.declared.state.NanState.{NanState}
 use Rattle.session.specs.declared.state.RssiState.{RssiState}
 use Rattle.session.specs.declared.state.Session.{Session}
-use Rattle.session.specs.Technology.{Technology, uwb, cs, nan, rssi, names}
+use Rattle.codec.specs.Technology.{Technology, uwb, cs, nan, rssi, names}
 use Rattle.session.specs.Rules.{Call, message, advertisement, Kind, request, configuration, stop, other, kindOf, octetsOf, sets, Served, conclude, Keeps, giveOut, setBy, endedBy, serve, call}
 use Rattle.session.specs.Ledger.{Ledger, isSome, ledgerKeeps}
 use Rattle.session.specs.Session.{yes, inForceIn, rangingIn, markIn, uwbPart, nanPart, rssiPart, sessionKeeps}

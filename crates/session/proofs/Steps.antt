@@ -1,7 +1,7 @@
 -- From what the codec's writers promise to what a call gives.
 use Prim.Native.Nat.{ℕ, zero-le, _<_}
 use mathlib.Core.Path.{_≡_, refl, sym, ap, subst, fun-ext, _∙_}
-use mathlib.Core.List.{List}
+use mathlib.Core.List.{List, [], _∷_}
 use mathlib.Core.Option.{none, some}
 use mathlib.Core.Bool.{Bool, true, false, cond, not, _&&_, _||_, and-true as with-true, and-false, true≢false}
 use lib.Dec.{eqb, ltb, leb}
@@ -10,9 +10,8 @@ use borrow.Author.Tests.{lt-ltb, le-leb, ne-eqb, eqb-true}
 use Rattle.codec.specs.Layout.{Layout, Values}
 use Rattle.codec.specs.Refusal.{Checked, refuse, accept, demand, andThen, notValid}
 use Rattle.codec.specs.Blocks.{uwbCapability, csCapability, nanCapability}
-use Rattle.codec.specs.Technology.{bit}
 use Rattle.codec.specs.Records.{capabilities, configurations, blank, response, only, setRecord, accepted, answer, forTag, ofUwbCapability, ofCsCapability, ofNanCapability}
-use Rattle.codec.specs.Message.{idOf, setOf as setOfMessage, parse, recordOf, reading}
+use Rattle.codec.specs.Message.{idOf, setOf, parse, recordOf, reading}
 use Rattle.codec.specs.Valid.{validFields, validColumn, valid}
 use Rattle.codec.specs.Writing.{writing, Writes}
 use Rattle.codec.specs.declared.records.Configuration.{Configuration}
@@ -26,11 +25,11 @@ use Rattle.session.specs.declared.state.Profile.{Profile}
 use Rattle.session.specs.declared.state.Session.{Session}
 use Rattle.session.specs.declared.state.Answer.{Answer}
 use Rattle.session.specs.declared.state.Step.{Step}
-use Rattle.session.specs.Technology.{Technology, uwb, cs, nan, rssi, among, names, setOf}
+use Rattle.codec.specs.Technology.{Technology, technologyId, uwb, cs, nan, rssi, names, naming, bit, ofBits, inBoth}
 use Rattle.session.specs.Rules.{validProfile, Call, message, advertisement, Kind, request, configuration, stop, other, kindOf, octetsOf, replied, shows, capabilityReply, Served, conclude, giveOut, configure, setBy, endedBy, halt, serve, call, after, answerTo}
 use Rattle.session.specs.Session.{yes, rangingIn, sessionKeeps, sessionCall, Gives, asProfile, profileOf}
-use Rattle.session.specs.Replies.{inBoth, Delivers, settle, Answers}
-use Rattle.session.proofs.SetLaws.{set-below, names-set}
+use Rattle.session.specs.Replies.{Delivers, settle, Answers}
+use Rattle.codec.proofs.SetLaws.{naming-below, names-naming}
 
 -- a step with the same session
 pub with-session : {s x y : Session} {o : Checked (Served Session)} {a : Answer} {b e : List ℕ} → x ≡ y → Gives s o b (record { session = y; answer = a }) e → Gives s o b (record { session = x; answer = a }) e
@@ -73,17 +72,17 @@ module _ (p : Profile) (wanted : Technology → Bool) (v : validProfile p ≡ tr
       let c = and-true (validFields csCapability (bit (p .set) 1) (ofCsCapability (k .cs))) _ (u .1) in
       let n = and-true (validFields nanCapability (bit (p .set) 2) (ofNanCapability (k .nan))) _ (c .1) in
       rw (
-        only-valid (setOf f) k,
-        lt-ltb (setOf f) 16 (set-below f),
-        names-set f uwb,
-        names-set f nan,
+        only-valid (naming f) k,
+        lt-ltb (naming f) 16 (naming-below f),
+        names-naming f uwb,
+        names-naming f nan,
         chosen uwbCapability (ofUwbCapability (k .uwb)) (f uwb) _ (has uwb) (u .0),
         chosen nanCapability (ofNanCapability (k .nan)) (f nan) _ (has nan) (n .0),
       )
 
 -- the blocks that the code chooses, by the bits of two sets
 capabilities-delivered : (p : Profile) (wanted : ℕ) {set : ℕ} {b e : List ℕ} {w : Written} → validProfile p ≡ true
-    → set ≡ setOf (inBoth wanted (p .set))
+    → set ≡ naming (inBoth wanted (p .set))
     → Writes (response set (only set (p .capability))) b w e → Delivers (some (capabilityReply p (names wanted))) b w e
 unfolding shows
 capabilities-delivered p wanted v k h = delivered (capabilityReply p (names wanted)) (reply-valid p (names wanted) v) (rw k at h)
@@ -99,14 +98,14 @@ module _ (v : Served Session) {b e : List ℕ} {w : Written} (d : Delivers (v .r
 
 -- what a Capability Response gives out: the mark goes where its blocks have UWB
 module _ (s : Session) (wanted : ℕ) {blocks m : ℕ} {b e : List ℕ} {w : Written}
-    (k : blocks ≡ setOf (inBoth wanted (s .profile .set)))
+    (k : blocks ≡ naming (inBoth wanted (s .profile .set)))
     (q : m ≡ cond (bit blocks 0 && eqb (w .refusal) 0) 0 (s .mark))
     (v : validProfile (s .profile) ≡ true) (h : Writes (response blocks (only blocks (s .profile .capability))) b w e) where
   pub given : Gives s (conclude b (giveOut sessionKeeps (s .profile) (names wanted) s)) b (record { session = record { profile = s .profile; uwb = s .uwb; nan = s .nan; rssi = s .rssi; mark = m }; answer = settle w 0 0 }) e
   unfolding conclude replied shows
   given = let f = shows (s .profile) (names wanted) in
       let d = capabilities-delivered (s .profile) wanted v k h in
-      let x = ap (λ (n : ℕ). bit n 0) k ∙ names-set f uwb in
+      let x = ap (λ (n : ℕ). bit n 0) k ∙ names-naming f uwb in
       by-bool (leb (length (octetsOf (some (capabilityReply (s .profile) (names wanted))))) (length b))
       (λ t. record { session = rw (q, x, d .answers, t, with-true (f uwb)); answer = rw (d .answers, t); buffer = rw (d .leaves, t) })
       (λ t. record { session = rw (q, d .answers, t, and-false (bit blocks 0)); answer = rw (d .answers, t); buffer = rw (d .leaves, t) })
@@ -121,6 +120,10 @@ ends ended c s = record {
   mark = cond (ended uwb) 1 (s .mark);
 }
 
+-- one technology, or none
+abbrev pub alone : Technology → Bool → Technology → Bool
+alone t on u = cond (eqb (technologyId t) (technologyId u)) on false
+
 -- what the answer names is set and stopped
 abbrev pub follow : Configuration → Answer → Session → Session
 follow c a s = ends (names (a .stopped)) c (sessionKeeps .put (names (a .set)) c s)
@@ -132,16 +135,16 @@ module _ (s : Session) (set : ℕ) (b : List ℕ) where
   pub follow-configure : (c : Configuration) → let o = conclude b (configure sessionKeeps (s .profile) set c s) in follow c (answerTo o) s ≡ after s o
   unfolding conclude
   follow-configure c = let f = setBy sessionKeeps (s .profile) set c s in
-      by-bool (leb (length (octetsOf (configure sessionKeeps (s .profile) set c s .reply))) (length b)) (λ t. rw (t, names-set f uwb, names-set f nan, names-set f rssi)) (λ t. rw t)
+      by-bool (leb (length (octetsOf (configure sessionKeeps (s .profile) set c s .reply))) (length b)) (λ t. rw (t, names-naming f uwb, names-naming f nan, names-naming f rssi)) (λ t. rw t)
 
   pub follow-halt : {c : Configuration} → c ≡ blank configurations → let o = conclude b (halt sessionKeeps (s .profile) set s) in follow c (answerTo o) s ≡ after s o
   unfolding conclude
   follow-halt {c} z = let f = endedBy sessionKeeps (s .profile) set s in
-      by-bool (leb (length (octetsOf (halt sessionKeeps (s .profile) set s .reply))) (length b)) (λ t. rw (t, z, names-set f uwb, names-set f nan, names-set f rssi)) (λ t. rw t)
+      by-bool (leb (length (octetsOf (halt sessionKeeps (s .profile) set s .reply))) (length b)) (λ t. rw (t, z, names-naming f uwb, names-naming f nan, names-naming f rssi)) (λ t. rw t)
 
 -- ---- what a Stop ends, where CS is never ranging
 
-pub ended-set : (p : Profile) (set : ℕ) (s : Session) → setOf (among (bit set 0 && yes (s .uwb .ranging)) false (bit set 2 && yes (s .nan .ranging)) (bit set 3 && yes (s .rssi .ranging))) ≡ setOf (endedBy sessionKeeps p set s)
+pub ended-set : (p : Profile) (set : ℕ) (s : Session) → ofBits ((bit set 0 && yes (s .uwb .ranging)) ∷ false ∷ (bit set 2 && yes (s .nan .ranging)) ∷ (bit set 3 && yes (s .rssi .ranging)) ∷ []) ≡ naming (endedBy sessionKeeps p set s)
 unfolding endedBy rangingIn
 ended-set p set s = rw (and-false (bit set 1))
 
@@ -162,7 +165,7 @@ unfolding reading
 unset m false k = refl
 unset m true k = go (parse m) k
   where
-    go : (o : Checked (List (List ℕ))) → let a = forTag (answer (andThen o λ blocks. accept (recordOf (idOf m) (setOfMessage m) blocks))) in (a .id ≡ 2 → ⊥) → a .configuration ≡ blank configurations
+    go : (o : Checked (List (List ℕ))) → let a = forTag (answer (andThen o λ blocks. accept (recordOf (idOf m) (setOf m) blocks))) in (a .id ≡ 2 → ⊥) → a .configuration ≡ blank configurations
     go (refuse x) k = refl
     go (accept blocks) k = rw (ne-eqb (idOf m) 2 k)
 

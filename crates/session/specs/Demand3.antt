@@ -11,7 +11,8 @@ use Rattle.codec.specs.declared.records.Record.{Record}
 use Rattle.session.specs.declared.state.Profile.{Profile}
 use Rattle.session.specs.declared.state.Session.{Session}
 use Rattle.session.specs.declared.state.Started.{Started}
-use Rattle.session.specs.Technology.{Technology, uwb, nan, rssi, Settings}
+use Rattle.codec.specs.Technology.{Technology, uwb, nan, rssi}
+use Rattle.codec.specs.Records.{Settings}
 use Rattle.session.specs.Rules.{Call}
 use Rattle.session.specs.Ledger.{Ledger, nothing, ledgerCall, seenFrom, stateAfter}
 use Rattle.session.specs.History.{Account, Words, Reports}

@@ -7,7 +7,6 @@ use mathlib.Core.Logic.{_↔_, _⊎_}
 use mathlib.Core.Bool.{Bool, true, false, cond, _&&_}
 use lib.ListN.{length}
 use Rattle.codec.specs.Refusal.{Checked, refuse, accept}
-use Rattle.codec.specs.Records.{setRecord}
 use Rattle.codec.specs.Message.{reading}
 use Rattle.codec.specs.WellFormed.{Each, Has}
 use Rattle.codec.specs.NormalForm.{blocksOf, normal}
@@ -15,7 +14,9 @@ use Rattle.codec.specs.declared.records.Record.{Record}
 use Rattle.codec.specs.declared.records.SetMessage.{SetMessage}
 use Rattle.session.specs.declared.state.Profile.{Profile}
 use Rattle.session.specs.declared.state.Answer.{Answer}
-use Rattle.session.specs.Technology.{Technology, idOf, Settings, settingsIn, capabilityIn, names, ranges, bars, within}
+use Rattle.codec.specs.Technology.{Technology, technologyId, names}
+use Rattle.codec.specs.Records.{Settings, settingsIn, capabilityIn, setRecord}
+use Rattle.session.specs.Within.{ranges, bars, within}
 use Rattle.session.specs.Rules.{Call, message, advertisement, lent, Kind, request, configuration, stop, other, kindOf, explicit, capabilityReply}
 
 -- an account of what ranges, with which settings, after each list of calls
@@ -63,8 +64,8 @@ module _ (p : Profile) where
 
   -- its capabilities are given out: what is written holds its block, in reply to a Request or as an advertisement
   pub data GivesOut (t : Technology) (c : Call) : Type 0 where
-    inReply : (r : Record) → Accepted request c r → Has (idOf t) (blocksOf (capabilityReply p (names (r .set)))) → GivesOut t c
-    inAdvertisement : Advertised c → Has (idOf t) (blocksOf (capabilityReply p (λ t. true))) → GivesOut t c
+    inReply : (r : Record) → Accepted request c r → Has (technologyId t) (blocksOf (capabilityReply p (names (r .set)))) → GivesOut t c
+    inAdvertisement : Advertised c → Has (technologyId t) (blocksOf (capabilityReply p (λ t. true))) → GivesOut t c
 
   -- a call that counts: refused ones do not
   abbrev pub Counts : Call → Type 0

@@ -6,7 +6,9 @@ use mathlib.Core.Bool.{Bool, true, false, cond, not, _&&_, _||_}
 use Rattle.codec.specs.Refusal.{Checked}
 use Rattle.session.specs.declared.state.Profile.{Profile}
 use Rattle.session.specs.declared.state.Answer.{Answer}
-use Rattle.session.specs.Technology.{Technology, Settings, settingsIn, ranges, bars}
+use Rattle.codec.specs.Technology.{Technology}
+use Rattle.codec.specs.Records.{Settings, settingsIn}
+use Rattle.session.specs.Within.{ranges, bars}
 use Rattle.session.specs.Rules.{Call, lent, Served, after, Keeps, call, answerTo, bufferAfter}
 
 -- what the ledger holds of a technology: the settings in force, or none, and the mark, which only UWB ever gets

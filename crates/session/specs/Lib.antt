@@ -1,4 +1,4 @@
-pub mod Technology
+pub mod Within
 pub mod Rules
 pub mod Ledger
 pub mod History

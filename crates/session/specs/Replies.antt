@@ -3,7 +3,7 @@ use Prim.Native.Nat.{ℕ}
 use mathlib.Core.Path.{_≡_}
 use mathlib.Core.List.{List}
 use mathlib.Core.Option.{Option}
-use mathlib.Core.Bool.{Bool, cond, _&&_}
+use mathlib.Core.Bool.{cond}
 use lib.Dec.{eqb}
 use lib.ListN.{length}
 use Rattle.codec.specs.Refusal.{Checked}
@@ -12,12 +12,7 @@ use Rattle.codec.specs.declared.records.Record.{Record}
 use Rattle.codec.specs.declared.records.Written.{Written}
 use Rattle.session.specs.declared.state.Session.{Session}
 use Rattle.session.specs.declared.state.Answer.{Answer}
-use Rattle.session.specs.Technology.{Technology, names}
 use Rattle.session.specs.Rules.{octetsOf, Served, answerTo, bufferAfter}
-
--- the technologies in both of two sets
-abbrev pub inBoth : ℕ → ℕ → Technology → Bool
-inBoth a b t = names a t && names b t
 
 -- the octets of a reply, into a buffer
 abbrev pub Delivers : Option Record → List ℕ → Written → List ℕ → Type 0

@@ -6,7 +6,6 @@ use mathlib.Core.Bool.{Bool, true, cond, not, _&&_}
 use lib.Dec.{leb, ltb, eqb}
 use lib.ListN.{length, drop}
 use Rattle.codec.specs.Refusal.{Checked, refuse, accept, demand, andThen, numberOf, notForTag, bufferTooShort}
-use Rattle.codec.specs.Records.{response, only, setRecord}
 use Rattle.codec.specs.Message.{reading}
 use Rattle.codec.specs.Valid.{valid}
 use Rattle.codec.specs.NormalForm.{normal}
@@ -15,7 +14,9 @@ use Rattle.codec.specs.declared.records.Record.{Record}
 use Rattle.codec.specs.declared.records.SetMessage.{SetMessage}
 use Rattle.session.specs.declared.state.Profile.{Profile}
 use Rattle.session.specs.declared.state.Answer.{Answer}
-use Rattle.session.specs.Technology.{Technology, capabilityIn, settingsIn, names, setOf, within}
+use Rattle.codec.specs.Technology.{Technology, names, naming}
+use Rattle.codec.specs.Records.{capabilityIn, settingsIn, response, only, setRecord}
+use Rattle.session.specs.Within.{within}
 
 -- ---- the profile
 
@@ -62,7 +63,7 @@ shows p wanted t = wanted t && names (p .set) t
 
 -- message 1 with the profile's own blocks
 abbrev pub capabilityReply : Profile → (Technology → Bool) → Record
-capabilityReply p wanted = response (setOf (shows p wanted)) (only (setOf (shows p wanted)) (p .capability))
+capabilityReply p wanted = response (naming (shows p wanted)) (only (naming (shows p wanted)) (p .capability))
 
 -- messages 3 and 7 are written with explicit replies on only
 abbrev pub explicitReply : ℕ → SetMessage → ℕ → Option Record
@@ -117,8 +118,8 @@ module _ {S : Type 0} (K : Keeps S) (p : Profile) where
   abbrev pub configure : ℕ → Configuration → S → Served S
   configure set c s = record {
     state = K .put (setBy set c s) c s;
-    reply = explicitReply (p .replies) SetMessage.ConfigurationResponse (setOf (setBy set c s));
-    set = setOf (setBy set c s);
+    reply = explicitReply (p .replies) SetMessage.ConfigurationResponse (naming (setBy set c s));
+    set = naming (setBy set c s);
     stopped = 0;
   }
 
@@ -129,9 +130,9 @@ module _ {S : Type 0} (K : Keeps S) (p : Profile) where
   abbrev pub halt : ℕ → S → Served S
   halt set s = record {
     state = K .stop (endedBy set s) s;
-    reply = explicitReply (p .replies) SetMessage.StopResponse (setOf (endedBy set s));
+    reply = explicitReply (p .replies) SetMessage.StopResponse (naming (endedBy set s));
     set = 0;
-    stopped = setOf (endedBy set s);
+    stopped = naming (endedBy set s);
   }
 
   unfoldable pub serve : Kind → Record → S → List ℕ → Checked (Served S)

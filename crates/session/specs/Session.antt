@@ -6,7 +6,6 @@ use mathlib.Core.Option.{Option, none, some}
 use mathlib.Core.Bool.{Bool, false, cond, not, _&&_}
 use lib.Dec.{eqb, ltb}
 use Rattle.codec.specs.Refusal.{Checked, refuse, accept, demand, numberOf, notValid}
-use Rattle.codec.specs.Records.{capabilities, configurations, blank}
 use Rattle.codec.specs.Valid.{valid}
 use Rattle.codec.specs.declared.uwb.UwbConfiguration.{UwbConfiguration}
 use Rattle.codec.specs.declared.nan.NanConfiguration.{NanConfiguration}
@@ -20,7 +19,8 @@ use Rattle.session.specs.declared.state.Session.{Session}
 use Rattle.session.specs.declared.state.Answer.{Answer}
 use Rattle.session.specs.declared.state.Step.{Step}
 use Rattle.session.specs.declared.state.Started.{Started}
-use Rattle.session.specs.Technology.{Technology, uwb, cs, nan, rssi, Settings}
+use Rattle.codec.specs.Technology.{Technology, uwb, cs, nan, rssi}
+use Rattle.codec.specs.Records.{Settings, capabilities, configurations, blank}
 use Rattle.session.specs.Rules.{Call, lent, validProfile, Served, Keeps, call, after, answerTo, bufferAfter}
 
 -- a flag is a number: 0 no, anything else yes

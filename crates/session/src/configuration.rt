@@ -1,8 +1,6 @@
 // Configurations: which technologies one sets.
 use crate::replies::answered;
 use crate::replies::deliver;
-use crate::sets::both_have;
-use crate::sets::set_of;
 use crate::state::Answer;
 use crate::state::Session;
 use crate::within::within_cs;
@@ -10,8 +8,10 @@ use crate::within::within_nan;
 use crate::within::within_uwb;
 use codec::Configuration;
 use codec::SetMessage;
+use codec::both_have;
+use codec::set_of;
 ghost use mathlib.Core.Path.{_≡_};
-ghost use Rattle.session.specs.Technology.{uwb, cs, nan, rssi};
+ghost use Rattle.codec.specs.Technology.{uwb, cs, nan, rssi};
 ghost use Rattle.session.specs.Rules.{conclude, setBy, configure};
 ghost use Rattle.session.specs.Session.{sessionKeeps};
 ghost use Rattle.session.specs.Replies.{Answers};

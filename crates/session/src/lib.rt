@@ -2,7 +2,6 @@
 mod calls;
 mod configuration;
 mod replies;
-mod sets;
 mod state;
 mod stop;
 mod within;

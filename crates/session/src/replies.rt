@@ -1,9 +1,9 @@
 // Answers: refusals, and the replies that carry a set.
-use crate::sets::worth;
 use crate::state::Answer;
 use crate::state::Profile;
 use codec::SetMessage;
 use codec::Written;
+use codec::set_if;
 ghost use mathlib.Core.Path.{_≡_};
 ghost use Prim.Native.Nat.{_<_};
 ghost use Rattle.session.specs.Rules.{validProfile, explicitReply};
@@ -32,8 +32,8 @@ pub(crate) fn answered(w: Written, set: u16, stopped: u16) -> Answer
     ensures { λ r. ⌜ r ≡ settle w set stopped ⌝ }
 {
     let done = w.refusal == 0;
-    let now_set = worth(done, set);
-    let now_stopped = worth(done, stopped);
+    let now_set = set_if(done, set);
+    let now_stopped = set_if(done, stopped);
     Answer {
         refusal: w.refusal,
         length: w.length,

@@ -1,11 +1,11 @@
 // Stops: which technologies one ends.
 use crate::replies::answered;
 use crate::replies::deliver;
-use crate::sets::set_of;
 use crate::state::Answer;
 use crate::state::Session;
 use codec::SetMessage;
 use codec::has;
+use codec::set_of;
 ghost use Rattle.session.specs.Rules.{conclude, halt};
 ghost use Rattle.session.specs.Session.{sessionKeeps};
 ghost use Rattle.session.specs.Replies.{Answers};

@@ -14,8 +14,8 @@ use codec::UwbConfiguration;
 ghost use mathlib.Core.Path.{_≡_};
 ghost use mathlib.Core.Bool.{_&&_};
 ghost use lib.Dec.{leb};
-ghost use Rattle.codec.specs.Technology.{bit};
-ghost use Rattle.session.specs.Technology.{uwb, cs, nan, hasConfigId, hasChannel, hasPreambleIndex, hasRole, within};
+ghost use Rattle.codec.specs.Technology.{uwb, cs, nan, bit};
+ghost use Rattle.session.specs.Within.{hasConfigId, hasChannel, hasPreambleIndex, hasRole, within};
 
 // Whether a number is at most 31 and has its bit.
 fn has_bit(bits: u32, n: u8) -> bool

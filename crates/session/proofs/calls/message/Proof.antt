@@ -3,10 +3,10 @@ use native.Mathlib.Omega.{arith}
 use mathlib.Core.Bool.{Bool, true, false}
 use mathlib.Core.Logic.{⊎-elim}
 use mathlib.Core.Path.{_≡_, _∙_, sym, subst}
-use Rattle.session.specs.Technology.{uwb, nan, rssi, among, names}
+use Rattle.codec.specs.Technology.{uwb, nan, rssi, names}
 use Rattle.session.specs.Rules.{message}
 use Rattle.session.specs.Session.{sessionKeeps, sessionCall, Gives}
-use Rattle.session.proofs.Steps.{not-heard, heard-valid, heard-unset, ends, a-request, a-configuration, a-stop, another, given, follow, follow-none, follow-configure, follow-halt, with-session}
+use Rattle.session.proofs.Steps.{alone, not-heard, heard-valid, heard-unset, ends, a-request, a-configuration, a-stop, another, given, follow, follow-none, follow-configure, follow-halt, with-session}
 use borrow.Author.Needs.{needs}
 use Rattle.session.proofs.calls.message.Statement.{statement}
 use Rattle.session.proofs.calls.message.Tie as tie
@@ -26,30 +26,30 @@ by-kind c = let a = c .before .before .before .before .before .before .before .b
     (c .if1 .came)
 
 -- what the answer names is set
-set-uwb : (c : tie.Joined2) → let k = c .before .before in c .if2 .session ≡ sessionKeeps .put (among (names (k .if1 .answer .set) uwb) false false false) (k .before .before .before .before .hear .result .configuration) (k .if1 .session)
+set-uwb : (c : tie.Joined2) → let k = c .before .before in c .if2 .session ≡ sessionKeeps .put (alone uwb (names (k .if1 .answer .set) uwb)) (k .before .before .before .before .hear .result .configuration) (k .if1 .session)
 set-uwb c = ⊎-elim (λ w. rw (w .2, w .1 .ensures, sym (c .before .has .ensures) ∙ w .0 .taken)) (λ w. rw (w .1, sym (c .before .has .ensures) ∙ w .0 .left)) (c .if2 .came)
 
-set-nan : (c : tie.Joined3) → let k = c .before .before .before .before in c .if3 .session ≡ sessionKeeps .put (among false false (names (k .if1 .answer .set) nan) false) (k .before .before .before .before .hear .result .configuration) (c .before .before .if2 .session)
+set-nan : (c : tie.Joined3) → let k = c .before .before .before .before in c .if3 .session ≡ sessionKeeps .put (alone nan (names (k .if1 .answer .set) nan)) (k .before .before .before .before .hear .result .configuration) (c .before .before .if2 .session)
 set-nan c = ⊎-elim (λ w. rw (w .2, w .1 .ensures, sym (c .before .has2 .ensures) ∙ w .0 .taken)) (λ w. rw (w .1, sym (c .before .has2 .ensures) ∙ w .0 .left)) (c .if3 .came)
 
-set-rssi : (c : tie.Joined4) → let k = c .before .before .before .before .before .before in c .if4 .session ≡ sessionKeeps .put (among false false false (names (k .if1 .answer .set) rssi)) (k .before .before .before .before .hear .result .configuration) (c .before .before .if3 .session)
+set-rssi : (c : tie.Joined4) → let k = c .before .before .before .before .before .before in c .if4 .session ≡ sessionKeeps .put (alone rssi (names (k .if1 .answer .set) rssi)) (k .before .before .before .before .hear .result .configuration) (c .before .before .if3 .session)
 set-rssi c = ⊎-elim (λ w. rw (w .2, w .1 .ensures, sym (c .before .has3 .ensures) ∙ w .0 .taken)) (λ w. rw (w .1, sym (c .before .has3 .ensures) ∙ w .0 .left)) (c .if4 .came)
 
 -- and stopped
-stop-uwb : (c : tie.Joined5) → let k = c .before .before .before .before .before .before .before .before in c .if5 .session ≡ ends (among (names (k .if1 .answer .stopped) uwb) false false false) (k .before .before .before .before .hear .result .configuration) (c .before .before .if4 .session)
+stop-uwb : (c : tie.Joined5) → let k = c .before .before .before .before .before .before .before .before in c .if5 .session ≡ ends (alone uwb (names (k .if1 .answer .stopped) uwb)) (k .before .before .before .before .hear .result .configuration) (c .before .before .if4 .session)
 stop-uwb c = ⊎-elim (λ w. rw (w .2, w .1 .ensures, sym (c .before .has4 .ensures) ∙ w .0 .taken)) (λ w. rw (w .1, sym (c .before .has4 .ensures) ∙ w .0 .left)) (c .if5 .came)
 
-stop-nan : (c : tie.Joined6) → let k = c .before .before .before .before .before .before .before .before .before .before in c .if6 .session ≡ ends (among false false (names (k .if1 .answer .stopped) nan) false) (k .before .before .before .before .hear .result .configuration) (c .before .before .if5 .session)
+stop-nan : (c : tie.Joined6) → let k = c .before .before .before .before .before .before .before .before .before .before in c .if6 .session ≡ ends (alone nan (names (k .if1 .answer .stopped) nan)) (k .before .before .before .before .hear .result .configuration) (c .before .before .if5 .session)
 stop-nan c = ⊎-elim (λ w. rw (w .2, w .1 .ensures, sym (c .before .has5 .ensures) ∙ w .0 .taken)) (λ w. rw (w .1, sym (c .before .has5 .ensures) ∙ w .0 .left)) (c .if6 .came)
 
 all-followed : (c : tie.Joined6) → let k = c .before .before .before .before .before .before .before .before .before .before in
-    ends (among false false false (names (k .if1 .answer .stopped) rssi)) (k .before .before .before .before .hear .result .configuration) (c .if6 .session) ≡ follow (k .before .before .before .before .hear .result .configuration) (k .if1 .answer) (k .if1 .session)
+    ends (alone rssi (names (k .if1 .answer .stopped) rssi)) (k .before .before .before .before .hear .result .configuration) (c .if6 .session) ≡ follow (k .before .before .before .before .hear .result .configuration) (k .if1 .answer) (k .if1 .session)
 all-followed c = rw (stop-nan c, stop-uwb (c .before .before), set-rssi (c .before .before .before .before), set-nan (c .before .before .before .before .before .before), set-uwb (c .before .before .before .before .before .before .before .before))
 
 finish : (c : tie.Joined6) (ended : Bool) → let k = c .before .before .before .before .before .before .before .before .before .before in let a = k .before .before .before .before .before .before .before .before .args in names (k .if1 .answer .stopped) rssi ≡ ended
-    → Gives (a .s) (sessionCall (a .s) (message (a .octets .now) (a .out .now))) (a .out .now) (record { session = ends (among false false false ended) (k .before .before .before .before .hear .result .configuration) (c .if6 .session); answer = k .if1 .answer }) (k .if1 .out)
+    → Gives (a .s) (sessionCall (a .s) (message (a .octets .now) (a .out .now))) (a .out .now) (record { session = ends (alone rssi ended) (k .before .before .before .before .hear .result .configuration) (c .if6 .session); answer = k .if1 .answer }) (k .if1 .out)
 finish c ended h = let k = c .before .before .before .before .before .before .before .before .before .before in
-    with-session (subst (λ (x : Bool). ends (among false false false x) (k .before .before .before .before .hear .result .configuration) (c .if6 .session) ≡ follow (k .before .before .before .before .hear .result .configuration) (k .if1 .answer) (k .if1 .session)) h (all-followed c)) (by-kind k)
+    with-session (subst (λ (x : Bool). ends (alone rssi x) (k .before .before .before .before .hear .result .configuration) (c .if6 .session) ≡ follow (k .before .before .before .before .hear .result .configuration) (k .if1 .answer) (k .if1 .session)) h (all-followed c)) (by-kind k)
 
 kept : (c : tie.Joined1) → length (c .if1 .out) ≡ length (c .before .before .before .before .before .before .before .before .args .out .now)
 kept c = ⊎-elim (λ w. rw (w .9) (w .5 .given)) (⊎-elim (λ w. rw (w .6) (w .4 .given)) (⊎-elim (λ w. rw (w .6) (w .4 .given)) (⊎-elim (λ w. rw (w .3)) (λ w. rw (w .1))))) (c .if1 .came)

@@ -1,7 +1,7 @@
-use Rattle.session.specs.Technology.{among}
+use mathlib.Core.List.{[], _∷_}
 use Rattle.session.specs.Rules.{configure}
 use Rattle.session.specs.Session.{sessionKeeps}
-use Rattle.session.proofs.SetLaws.{set-below}
+use Rattle.codec.proofs.SetLaws.{bits-below}
 use Rattle.session.proofs.Steps.{settled}
 use borrow.Author.Needs.{needs}
 use Rattle.session.proofs.configuration.configure.Statement.{statement}
@@ -23,7 +23,7 @@ set-of-requires : tie.Need-set-of-requires
 set-of-requires c κs = search needs
 
 deliver-requires : tie.Need-deliver-requires
-deliver-requires c κs = rw (c .before .set-of .ensures) (set-below (among (c .before .before .before .before .before .sets-uwb .result) (c .before .before .before .before .sets-cs .result) (c .before .before .before .sets-nan .result) (c .before .before .sets-rssi .result)))
+deliver-requires c κs = rw (c .before .set-of .ensures) (bits-below ((c .before .before .before .before .before .sets-uwb .result) ∷ (c .before .before .before .before .sets-cs .result) ∷ (c .before .before .before .sets-nan .result) ∷ (c .before .before .sets-rssi .result) ∷ []))
 
 answered-requires : tie.Need-answered-requires
 answered-requires c κs = search needs

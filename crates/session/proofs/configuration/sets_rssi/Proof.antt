@@ -1,5 +1,5 @@
 use mathlib.Core.Bool.{and-true}
-use Rattle.session.specs.Technology.{within}
+use Rattle.session.specs.Within.{within}
 use Rattle.session.specs.Rules.{sets, setBy}
 use Rattle.session.specs.Session.{markIn}
 use borrow.Author.Needs.{needs}

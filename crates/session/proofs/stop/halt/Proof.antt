@@ -1,7 +1,7 @@
 use mathlib.Core.Path.{_∙_}
 use Rattle.session.specs.Rules.{endedBy, halt}
 use Rattle.session.specs.Session.{sessionKeeps}
-use Rattle.session.proofs.SetLaws.{set-below}
+use Rattle.codec.proofs.SetLaws.{naming-below}
 use Rattle.session.proofs.Steps.{ended-set, settled}
 use borrow.Author.Needs.{needs}
 use Rattle.session.proofs.stop.halt.Statement.{statement}
@@ -20,7 +20,7 @@ set-of-requires : tie.Need-set-of-requires
 set-of-requires c κs = search needs
 
 deliver-requires : tie.Need-deliver-requires
-deliver-requires c κs = rw (c .before .set-of .ensures, c .before .before .before .before .before .before .before .has .ensures, c .before .before .before .before .before .has2 .ensures, c .before .before .before .has3 .ensures, ended-set (c .before .before .before .before .before .before .before .before .before .args .s .profile) (c .before .before .before .before .before .before .before .before .before .args .set) (c .before .before .before .before .before .before .before .before .before .args .s)) (set-below (endedBy sessionKeeps (c .before .before .before .before .before .before .before .before .before .args .s .profile) (c .before .before .before .before .before .before .before .before .before .args .set) (c .before .before .before .before .before .before .before .before .before .args .s)))
+deliver-requires c κs = rw (c .before .set-of .ensures, c .before .before .before .before .before .before .before .has .ensures, c .before .before .before .before .before .has2 .ensures, c .before .before .before .has3 .ensures, ended-set (c .before .before .before .before .before .before .before .before .before .args .s .profile) (c .before .before .before .before .before .before .before .before .before .args .set) (c .before .before .before .before .before .before .before .before .before .args .s)) (naming-below (endedBy sessionKeeps (c .before .before .before .before .before .before .before .before .before .args .s .profile) (c .before .before .before .before .before .before .before .before .before .args .set) (c .before .before .before .before .before .before .before .before .before .args .s)))
 
 answered-requires : tie.Need-answered-requires
 answered-requires c κs = search needs

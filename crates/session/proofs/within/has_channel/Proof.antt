@@ -1,4 +1,4 @@
-use Rattle.session.specs.Technology.{hasChannel}
+use Rattle.session.specs.Within.{hasChannel}
 use borrow.Author.Needs.{needs}
 use Rattle.session.proofs.within.has_channel.Statement.{statement}
 use Rattle.session.proofs.within.has_channel.Tie as tie

@@ -1,4 +1,4 @@
-use Rattle.session.specs.Technology.{hasConfigId}
+use Rattle.session.specs.Within.{hasConfigId}
 use borrow.Author.Needs.{needs}
 use Rattle.session.proofs.within.has_config_id.Statement.{statement}
 use Rattle.session.proofs.within.has_config_id.Tie as tie

@@ -1,7 +1,7 @@
 use Prim.Native.Nat.{_-_}
 use native.Mathlib.Omega.{arith}
 use borrow.Author.Tests.{le-leb, lt-leb}
-use Rattle.session.specs.Technology.{hasPreambleIndex}
+use Rattle.session.specs.Within.{hasPreambleIndex}
 use borrow.Author.Needs.{needs}
 use Rattle.session.proofs.within.has_preamble_index.Statement.{statement}
 use Rattle.session.proofs.within.has_preamble_index.Tie as tie

@@ -1,4 +1,4 @@
-use Rattle.session.specs.Technology.{hasRole}
+use Rattle.session.specs.Within.{hasRole}
 use borrow.Author.Needs.{needs}
 use Rattle.session.proofs.within.has_role.Statement.{statement}
 use Rattle.session.proofs.within.has_role.Tie as tie

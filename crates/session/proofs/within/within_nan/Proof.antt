@@ -1,5 +1,5 @@
 use mathlib.Core.Path.{refl}
-use Rattle.session.specs.Technology.{within}
+use Rattle.session.specs.Within.{within}
 use Rattle.session.proofs.within.within_nan.Statement.{statement}
 use Rattle.session.proofs.within.within_nan.Tie as tie
 

@@ -1,4 +1,4 @@
-use Rattle.session.specs.Technology.{within}
+use Rattle.session.specs.Within.{within}
 use borrow.Author.Needs.{needs}
 use Rattle.session.proofs.within.within_uwb.Statement.{statement}
 use Rattle.session.proofs.within.within_uwb.Tie as tie

@@ -1,6 +1,6 @@
 use borrow.Author.Needs.{needs}
-use Rattle.session.proofs.sets.both_have.Statement.{statement}
-use Rattle.session.proofs.sets.both_have.Tie as tie
+use Rattle.codec.proofs.technology.both_have.Statement.{statement}
+use Rattle.codec.proofs.technology.both_have.Tie as tie
 
 has-requires : tie.Need-has-requires
 has-requires c κs = search needs

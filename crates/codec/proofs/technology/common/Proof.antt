@@ -1,6 +1,6 @@
 use borrow.Author.Needs.{needs}
-use Rattle.session.proofs.sets.common.Statement.{statement}
-use Rattle.session.proofs.sets.common.Tie as tie
+use Rattle.codec.proofs.technology.common.Statement.{statement}
+use Rattle.codec.proofs.technology.common.Tie as tie
 
 both-have-requires : tie.Need-both-have-requires
 both-have-requires c κs = search needs
