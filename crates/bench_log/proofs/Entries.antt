@@ -7,7 +7,8 @@ use lib.Dec.{leb, ltb, eqb}
 use lib.ListN.{length, getD}
 use borrow.Author.Tests.{leb-true, eqb-true}
 use Rattle.codec.proofs.Outcomes.{and-true}
-use Rattle.codec.specs.Message.{messageLimit, reading}
+use Rattle.codec.specs.Table.{messageLimit}
+use Rattle.codec.specs.Message.{reading}
 use Rattle.codec.specs.Records.{answer}
 use Rattle.codec.specs.declared.records.Reading.{Reading}
 use Rattle.bench_log.specs.LogRecord.{recordSize, lengthIn, messageIn, keepsLayout, readingOf, entryOf}

@@ -7,7 +7,8 @@ use lib.ListN.{length, getD, drop}
 use Rattle.codec.specs.Octets.{allZero, part, ofLE}
 use Rattle.codec.specs.Refusal.{Checked, demand, brokenRecord}
 use Rattle.codec.specs.Records.{answer}
-use Rattle.codec.specs.Message.{messageLimit, reading}
+use Rattle.codec.specs.Table.{messageLimit}
+use Rattle.codec.specs.Message.{reading}
 use Rattle.codec.specs.declared.records.Record.{Record}
 use Rattle.bench_log.specs.declared.entry.Entry.{Entry}
 

@@ -1,35 +1,17 @@
--- Layouts by technology ID, where the ID is none of those that a match names.
-use Prim.Native.Nat.{ℕ, zero, suc, _-_, _≤_}
-use native.Mathlib.Omega.{arith}
-use mathlib.Core.Path.{_≡_, refl, sym, subst}
-use mathlib.Core.Bool.{Bool, true, false, cond}
-use mathlib.Core.List.{List, []}
+-- Blocks by their ID, where a match names only some: those that it leaves have no test.
+use Prim.Native.Nat.{ℕ}
+use mathlib.Core.Path.{_≡_}
+use mathlib.Core.List.{List}
+use lib.Dec.{eqb}
+use borrow.Author.Tests.{ne-eqb}
 use Rattle.codec.specs.Refusal.{accept}
-use Rattle.codec.specs.Layout.{Layout, Values, fault}
-use Rattle.codec.specs.Blocks.{capabilityBlock, configurationBlock}
+use Rattle.codec.specs.Layout.{fault}
+use Rattle.codec.specs.Blocks.{capabilities, configurations, layouts}
+use Rattle.codec.proofs.Outcomes.{by-bool}
 
-pub no-layout : (message : Bool) (id : ℕ) → 4 ≤ id → cond message capabilityBlock configurationBlock id ≡ []
-no-layout message id h = let e : id ≡ suc (suc (suc (suc (id - 4)))) = omega arith in rw e (go message)
-  where
-    go : (message : Bool) → cond message capabilityBlock configurationBlock (suc (suc (suc (suc (id - 4))))) ≡ []
-    go true = refl
-    go false = refl
+pub capability-sound : (id : ℕ) (b : List ℕ) → (id ≡ 0 → ⊥) → (id ≡ 2 → ⊥) → fault (layouts capabilities id) 2 b ≡ accept tt
+capability-sound id b n₀ n₂ =
+    rw (ne-eqb id 0 n₀, ne-eqb id 2 n₂) (by-bool (eqb id 1) (λ y. rw y) (λ n. rw n (by-bool (eqb id 3) (λ y. rw y) (λ n. rw n))))
 
--- a block with an ID from 4 on has no field
-pub no-fields : (capability : Bool) (id : ℕ) → 4 ≤ id → (v w : Values (cond capability capabilityBlock configurationBlock id)) → v ≡ w
-no-fields capability id h = subst (λ (L : Layout). (v w : Values L) → v ≡ w) (sym (no-layout capability id h)) (λ v w. refl)
-
--- blocks without a test
-pub capability-sound : (id : ℕ) (b : List ℕ) → (id ≡ 0 → ⊥) → (id ≡ 2 → ⊥) → fault (capabilityBlock id) 2 b ≡ accept tt
-capability-sound zero b n₀ n₂ = absurd (n₀ refl)
-capability-sound (suc zero) b n₀ n₂ = refl
-capability-sound (suc (suc zero)) b n₀ n₂ = absurd (n₂ refl)
-capability-sound (suc (suc (suc zero))) b n₀ n₂ = refl
-capability-sound (suc (suc (suc (suc id)))) b n₀ n₂ = refl
-
-pub configuration-sound : (id : ℕ) (b : List ℕ) → (id ≡ 0 → ⊥) → (id ≡ 1 → ⊥) → (id ≡ 2 → ⊥) → fault (configurationBlock id) 2 b ≡ accept tt
-configuration-sound zero b n₀ n₁ n₂ = absurd (n₀ refl)
-configuration-sound (suc zero) b n₀ n₁ n₂ = absurd (n₁ refl)
-configuration-sound (suc (suc zero)) b n₀ n₁ n₂ = absurd (n₂ refl)
-configuration-sound (suc (suc (suc zero))) b n₀ n₁ n₂ = refl
-configuration-sound (suc (suc (suc (suc id)))) b n₀ n₁ n₂ = refl
+pub configuration-sound : (id : ℕ) (b : List ℕ) → (id ≡ 0 → ⊥) → (id ≡ 1 → ⊥) → (id ≡ 2 → ⊥) → fault (layouts configurations id) 2 b ≡ accept tt
+configuration-sound id b n₀ n₁ n₂ = rw (ne-eqb id 0 n₀, ne-eqb id 1 n₁, ne-eqb id 2 n₂) (by-bool (eqb id 3) (λ y. rw y) (λ n. rw n))

@@ -13,7 +13,7 @@ use Rattle.codec.specs.Octets.{Octets, allZero, part, ofLE, toLE}
 use Rattle.codec.specs.Layout.{Test, Layout, number, octets, counted, test, spelled, Values, zeroes, allowed, Typed, cleared, zeroed, write, value, need}
 use Rattle.codec.proofs.Laws.{part-length, octets-take, octets-part, head-at, after, room, here, long-LE, back-LE, forth-LE}
 use Rattle.codec.proofs.Outcomes.{and-true}
-use Rattle.codec.proofs.Layouts.{fits, within, within-le, need-from}
+use Rattle.codec.proofs.Layouts.{fits, bounded, bounded-le, need-from}
 
 -- ---- zeros
 
@@ -107,12 +107,12 @@ zeroed-only (counted y x t c ∷ L) v h e =
 
 -- a counted field that is allowed, taken apart
 module _ {C : Type 0} (t : Test) (c : ℕ) (L : Layout) where
-  counted-apart : (within t c && fits L) ≡ true → (n : ℕ) (l : List ℕ) (v : Values L) → length l ≡ c → (test t n && allowed L v) ≡ true
+  counted-apart : (bounded t c && fits L) ≡ true → (n : ℕ) (l : List ℕ) (v : Values L) → length l ≡ c → (test t n && allowed L v) ≡ true
       → (fits L ≡ true → n ≤ c → length (take n l) ≡ n → allowed L v ≡ true → C) → C
   counted-apart f n l v e a k =
-      let g = and-true (within t c) (fits L) f in
+      let g = and-true (bounded t c) (fits L) f in
       let p = and-true (test t n) (allowed L v) a in
-      let m : n ≤ c = within-le t c n (g .0) (p .0) in
+      let m : n ≤ c = bounded-le t c n (g .0) (p .0) in
       k (g .1) m (length-take-le n l (omega arith)) (p .1)
 
 pub back : (L : Layout) → fits L ≡ true → (at : ℕ) (v : Values L) (s r : List ℕ) → at ≤ length s → Typed L v → allowed L v ≡ true → cleared L v ≡ true → drop at s ≡ write L v ++ r
@@ -166,10 +166,10 @@ forth (octets x n t ∷ L) f at s o h a =
     let W = write L (value L (at + n) s) in
     ((part-length at n s (omega (arith, need-from L (at + n) s)), (octets-part at n s o, m .0)), m .1, m .2 ∙ ap (λ (l : List ℕ). l ++ W) (take-add at n s) ∙ append-assoc (take at s) (part at n s) W)
 forth (counted y x t c ∷ L) f at s o h a =
-    let g = and-true (within t c) (fits L) f in
+    let g = and-true (bounded t c) (fits L) f in
     let k = getD s at 0 in
     let p = and-true (test t k) (allowed L (value L (at + 1 + k) s)) a in
-    let b : k ≤ c = within-le t c k (g .0) (p .0) in
+    let b : k ≤ c = bounded-le t c k (g .0) (p .0) in
     let m = forth L (g .1) (at + 1 + k) s o h (p .1) in
     let W = write L (value L (at + 1 + k) s) in
     let d = part (at + 1) k s in

@@ -1,41 +1,41 @@
 -- The laws of every layout, and that the blocks' layouts keep what they rest on.
-use Prim.Native.Nat.{ℕ, zero, suc, _+_, _≤_}
+use Prim.Native.Nat.{ℕ, _+_, _≤_}
 use native.Mathlib.Omega.{arith}
 use mathlib.Core.Path.{_≡_, refl}
-use mathlib.Core.Bool.{Bool, true, false, _&&_, cond}
+use mathlib.Core.Bool.{Bool, true, false, _&&_}
 use mathlib.Core.List.{List, [], _∷_}
 use lib.Dec.{leb, eqb}
-use lib.ListN.{length, getD, replicate}
+use lib.ListN.{length, getD, length-append, length-take}
 use borrow.Author.Tests.{le-leb, leb-true, eqb-true}
 use Rattle.codec.specs.Refusal.{accept, notAllowed, blockTooSmall}
 use Rattle.codec.specs.Octets.{part, ofLE}
-use Rattle.codec.specs.Layout.{Test, any, oneOf, between, Layout, number, octets, counted, member, inside, test, spelled, zeroes, allowed, value, need, least, fault}
-use Rattle.codec.specs.Blocks.{capabilityBlock, configurationBlock}
+use Rattle.codec.specs.Layout.{Test, any, oneOf, between, Layout, number, octets, counted, member, inside, test, spelled, Values, allowed, Typed, write, value, need, least, fault}
 use Rattle.codec.specs.Places.{Roomy}
+use Rattle.codec.proofs.Laws.{long-LE}
 use Rattle.codec.proofs.Outcomes.{and-true, or-true, demanded}
 
 -- ---- a layout whose counted octets fit their arrays
 
-abbrev pub within : Test → ℕ → Bool
-within any c = false
-within (oneOf []) c = true
-within (oneOf (y ∷ l)) c = leb y c && within (oneOf l) c
-within (between low high) c = leb high c
+abbrev pub bounded : Test → ℕ → Bool
+bounded any c = false
+bounded (oneOf []) c = true
+bounded (oneOf (y ∷ l)) c = leb y c && bounded (oneOf l) c
+bounded (between low high) c = leb high c
 
 abbrev pub fits : Layout → Bool
 fits [] = true
 fits (number x w t ∷ L) = fits L
 fits (octets x n t ∷ L) = fits L
-fits (counted y x t c ∷ L) = within t c && fits L
+fits (counted y x t c ∷ L) = bounded t c && fits L
 
-pub within-le : (t : Test) (c k : ℕ) → within t c ≡ true → test t k ≡ true → k ≤ c
+pub bounded-le : (t : Test) (c k : ℕ) → bounded t c ≡ true → test t k ≡ true → k ≤ c
 unfolding member inside
-within-le any c k e h = let z : _≡_ {A = ℕ} 0 1 = cc in absurd (omega arith)
-within-le (oneOf []) c k e h = let z : _≡_ {A = ℕ} 0 1 = cc in absurd (omega arith)
-within-le (oneOf (y ∷ l)) c k e h =
-    let w = and-true (leb y c) (within (oneOf l) c) e in
-    or-true (eqb k y) (member l k) h (λ q. omega (arith, eqb-true k y q, leb-true y c (w .0))) (λ q. within-le (oneOf l) c k (w .1) q)
-within-le (between low high) c k e h = omega (arith, leb-true high c e, leb-true k high (and-true (leb low k) (leb k high) h .1))
+bounded-le any c k e h = let z : _≡_ {A = ℕ} 0 1 = cc in absurd (omega arith)
+bounded-le (oneOf []) c k e h = let z : _≡_ {A = ℕ} 0 1 = cc in absurd (omega arith)
+bounded-le (oneOf (y ∷ l)) c k e h =
+    let w = and-true (leb y c) (bounded (oneOf l) c) e in
+    or-true (eqb k y) (member l k) h (λ q. omega (arith, eqb-true k y q, leb-true y c (w .0))) (λ q. bounded-le (oneOf l) c k (w .1) q)
+bounded-le (between low high) c k e h = omega (arith, leb-true high c e, leb-true k high (and-true (leb low k) (leb k high) h .1))
 
 -- ---- sizes
 
@@ -51,10 +51,10 @@ roomy [] f at s h e = h
 roomy (number x w t ∷ L) f at s h e = demanded (test t (ofLE w at s)) notAllowed _ tt e λ y e₁. roomy L f (at + w) s h e₁
 roomy (octets x n t ∷ L) f at s h e = demanded (spelled t (part at n s)) notAllowed _ tt e λ y e₁. roomy L f (at + n) s h e₁
 roomy (counted y x t c ∷ L) f at s h e =
-    let g = and-true (within t c) (fits L) f in
+    let g = and-true (bounded t c) (fits L) f in
     demanded (test t (getD s at 0)) notAllowed _ tt e λ a e₁.
     demanded (leb (least L (at + 1 + getD s at 0)) (length s)) blockTooSmall _ tt e₁ λ z e₂.
-    (within-le t c (getD s at 0) (g .0) a, roomy L (g .1) (at + 1 + getD s at 0) s (leb-true _ _ z) e₂)
+    (bounded-le t c (getD s at 0) (g .0) a, roomy L (g .1) (at + 1 + getD s at 0) s (leb-true _ _ z) e₂)
 
 pub need-from : (L : Layout) (at : ℕ) (s : List ℕ) → at ≤ need L at s
 need-from [] at s = omega arith
@@ -89,33 +89,16 @@ fault-none (counted y x t c ∷ L) at s h e =
     let a = and-true (test t (getD s at 0)) (allowed L (value L k s)) e in
     rw (a .0, le-leb (least L k) (length s) (omega (arith, least-need L k s))) (fault-none L k s h (a .1))
 
--- ---- the blocks of a message, by technology ID
+-- ---- the most octets that a layout's fields take
 
-module _ (capability : Bool) where
-  abbrev pub block : ℕ → Layout
-  block id = cond capability capabilityBlock configurationBlock id
+abbrev pub most : Layout → ℕ
+most [] = 0
+most (number x w t ∷ L) = w + most L
+most (octets x n t ∷ L) = n + most L
+most (counted y x t c ∷ L) = 1 + c + most L
 
-pub block-fits : (capability : Bool) (id : ℕ) → fits (block capability id) ≡ true
-block-fits true zero = refl
-block-fits true (suc zero) = refl
-block-fits true (suc (suc zero)) = refl
-block-fits true (suc (suc (suc zero))) = refl
-block-fits true (suc (suc (suc (suc id)))) = refl
-block-fits false zero = refl
-block-fits false (suc zero) = refl
-block-fits false (suc (suc zero)) = refl
-block-fits false (suc (suc (suc zero))) = refl
-block-fits false (suc (suc (suc (suc id)))) = refl
-
--- a block of 20 zeros has zero fields
-pub block-zeros : (capability : Bool) (id : ℕ) → (value (block capability id) 2 (replicate 20 0) ≡ zeroes (block capability id)) × Roomy (block capability id) 2 (replicate 20 0)
-block-zeros true zero = (refl, omega arith)
-block-zeros true (suc zero) = (refl, omega arith)
-block-zeros true (suc (suc zero)) = (refl, omega arith)
-block-zeros true (suc (suc (suc zero))) = (refl, omega arith)
-block-zeros true (suc (suc (suc (suc id)))) = (refl, omega arith)
-block-zeros false zero = (refl, omega arith)
-block-zeros false (suc zero) = (refl, omega arith)
-block-zeros false (suc (suc zero)) = (refl, omega arith)
-block-zeros false (suc (suc (suc zero))) = (refl, omega arith)
-block-zeros false (suc (suc (suc (suc id)))) = (refl, omega arith)
+pub write-most : (L : Layout) (v : Values L) → Typed L v → length (write L v) ≤ most L
+write-most [] v h = omega arith
+write-most (number x w t ∷ L) v h = simp length-append (omega (arith, write-most L (v .1) (h .1), long-LE w (v .0)))
+write-most (octets x n t ∷ L) v h = simp length-append (omega (arith, write-most L (v .1) (h .1 .1), h .0))
+write-most (counted y x t c ∷ L) v h = simp length-append (omega (arith, write-most L (v .1 .1) (h .1 .1 .1), h .1 .0, length-take (v .0) (v .1 .0)))

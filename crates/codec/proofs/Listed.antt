@@ -5,8 +5,8 @@ use mathlib.Core.Path.{_≡_, refl, sym, ap, _∙_}
 use mathlib.Core.List.{List, []}
 use lib.ListN.{length, getD}
 use Rattle.codec.specs.Refusal.{Checked, refuse, accept, numberIn}
-use Rattle.codec.specs.Octets.{Octets}
-use Rattle.codec.specs.Message.{idOf, setOf, blocksAt, blockCount, blockAt, placeAfter, also, noId, blockFault, Walked, prepend, walk, parse}
+use Rattle.codec.specs.Table.{row, blockCount, layoutsOf}
+use Rattle.codec.specs.Message.{idOf, setOf, blocksAt, blockAt, placeAfter, also, noId, blockFault, Walked, prepend, walk, parse}
 use Rattle.codec.specs.Listing.{noBlock, nthFrom, listed, nthBlock, headAt, Passes, Lists}
 use Rattle.codec.specs.declared.records.Block.{Block}
 use Rattle.codec.proofs.Outcomes.{by-number, chained}
@@ -18,14 +18,14 @@ use Rattle.codec.proofs.Found.{parsed, four}
 module _ (m : List ℕ) (at : ℕ) where
   -- a walk that passes over blocks passes over the one at its place, and then over the others
   turn : {C : Type 0} (left : ℕ) (p : Passes m left at) → (left ≡ 0 → ⊥)
-      → ((q : Passes m (left - 1) (placeAfter m at)) → Sound m (p .came) at → prepend (blockAt m at) (q .walked) ≡ p .walked → C) → C
+      → ((q : Passes m (left - 1) (placeAfter m at)) → Sound (p .layouts) (p .set) m (p .came) at → prepend (blockAt m at) (q .walked) ≡ p .walked → C) → C
   unfolding walk
   turn zero p n k = absurd (n refl)
   turn (suc left) p n k =
       let came = also (getD m at 0) (p .came) in
-      chained (blockFault m (p .came) at) _ (p .walked) (p .accepted) λ u a e₁.
-      chained (walk m left came (placeAfter m at)) _ (p .walked) e₁ λ w e₂ e₃.
-      k (record { came = came; walked = w; accepted = rw (sub-one (suc left)) e₂ }) (sound m (p .came) at a) (cc)
+      chained (blockFault (p .layouts) (p .set) m (p .came) at) _ (p .walked) (p .accepted) λ u a e₁.
+      chained (walk (p .layouts) (p .set) m left came (placeAfter m at)) _ (p .walked) e₁ λ w e₂ e₃.
+      k (record { layouts = p .layouts; set = p .set; came = came; walked = w; accepted = rw (sub-one (suc left)) e₂ }) (sound (p .layouts) (p .set) m (p .came) at a) (cc)
 
   module _ (left : ℕ) where
     pub lists-none : (n : ℕ) → left ≡ 0 → Lists m left at n noBlock
@@ -55,25 +55,25 @@ module _ (m : List ℕ) (at : ℕ) where
 
 -- ---- a message, by the number of its first fault
 
-abbrev passes : (m : List ℕ) (blocks : List (List ℕ)) → parse m ≡ accept blocks → Passes m (blockCount (idOf m) (setOf m)) (blocksAt (idOf m))
-passes m blocks a = let p = parsed m blocks a in record { came = noId; walked = record { blocks = blocks; end = p .end }; accepted = p .walked }
+abbrev passes : (m : List ℕ) (blocks : List (List ℕ)) → parse m ≡ accept blocks → Passes m (blockCount (row (idOf m) .blocks) (setOf m)) (blocksAt (row (idOf m) .times))
+passes m blocks a = let p = parsed m blocks a in record { layouts = layoutsOf (row (idOf m) .blocks); set = setOf m; came = noId; walked = record { blocks = blocks; end = p .end }; accepted = p .walked }
 
 module _ (m : List ℕ) (f : ℕ) (e : f ≡ numberIn (parse m)) where
   pub lists-refused : (n : ℕ) → (f ≡ 0 → ⊥) → noBlock ≡ nthBlock m n
   unfolding nthBlock
   lists-refused n h = go (parse m) e
     where
-      go : (c : Checked (List (List ℕ))) → f ≡ numberIn c → noBlock ≡ listed c (blocksAt (idOf m)) n
+      go : (c : Checked (List (List ℕ))) → f ≡ numberIn c → noBlock ≡ listed c (blocksAt (row (idOf m) .times)) n
       go (refuse x) e = refl
       go (accept blocks) e = absurd (h e)
 
   module _ (z : f ≡ 0) where
-    pub room : Octets m → 4 ≤ length m
-    room o = by-number (parse m) (sym e ∙ z) λ blocks a. four m o blocks a
+    pub room : 4 ≤ length m
+    room = by-number (parse m) (sym e ∙ z) λ blocks a. four m blocks a
 
-    pub passes-all : Passes m (blockCount (idOf m) (setOf m)) (blocksAt (idOf m))
+    pub passes-all : Passes m (blockCount (row (idOf m) .blocks) (setOf m)) (blocksAt (row (idOf m) .times))
     passes-all = by-number (parse m) (sym e ∙ z) λ blocks a. passes m blocks a
 
-    pub lists-message : (n : ℕ) (r : Block) → Lists m (blockCount (idOf m) (setOf m)) (blocksAt (idOf m)) n r → r ≡ nthBlock m n
+    pub lists-message : (n : ℕ) (r : Block) → Lists m (blockCount (row (idOf m) .blocks) (setOf m)) (blocksAt (row (idOf m) .times)) n r → r ≡ nthBlock m n
     unfolding nthBlock
     lists-message n r h = by-number (parse m) (sym e ∙ z) λ blocks a. rw a (h (passes m blocks a))

@@ -9,12 +9,12 @@ use mathlib.Core.List.{List, []}
 use lib.Dec.{leb, eqb, ltb}
 use lib.ListN.{length, getD}
 use borrow.Author.Tests.{le-leb, lt-leb, leb-true, leb-false, ne-eqb}
-use Rattle.codec.specs.Refusal.{Checked, refuse, accept, andThen, numberIn}
-use Rattle.codec.specs.Octets.{ofLE}
-use Rattle.codec.specs.Layout.{member}
-use Rattle.codec.specs.Message.{messageLimit, versionOf, idOf, assigned, readable, setOf, blocksAt, carriesBlocks, blockCount, noId, Walked, walk, endFault, blocksFrom, body, parse}
-use Rattle.codec.specs.Places.{noted, Finds, Judged}
-use Rattle.codec.proofs.Outcomes.{by-bool, no-zero, or-false}
+use Rattle.codec.specs.Refusal.{Checked, refuse, accept, andThen, numberOf, numberIn, tooLong, endsEarly, reservedId, wrongVersion, setsDiffer, leftOver}
+use Rattle.codec.specs.Layout.{Layout, member}
+use Rattle.codec.specs.Table.{messageLimit, assigned, readable, Row, row, blockCount, layoutsOf}
+use Rattle.codec.specs.Message.{versionOf, idOf, setOf, setsAgree, blocksAt, noId, Walked, walk, endFault, blocksFrom, afterHead, body, parse}
+use Rattle.codec.specs.Places.{noted, setAlone, Finds, Judged}
+use Rattle.codec.proofs.Outcomes.{by-bool, no-zero}
 
 -- ---- what is judged
 
@@ -31,7 +31,7 @@ module _ {kept : Bool} {c : Checked (List (List ℕ))} {at : ℕ} {found left : 
 
 -- ---- message IDs
 
-pub six-or-seven : (id : ℕ) → 6 ≤ id → id < 8 → (carriesBlocks id ≡ false) × (assigned id ≡ true)
+pub six-or-seven : (id : ℕ) → 6 ≤ id → id < 8 → (row id ≡ setAlone) × (assigned id ≡ true)
 unfolding assigned member
 six-or-seven id l u = ⊎-elim (λ e. rw (← e) (refl, refl)) (λ h. let e : id ≡ 7 = omega arith in rw e (refl, refl)) (eq-or-lt-of-le l)
 
@@ -59,7 +59,7 @@ assigned-under id e =
 -- ---- the end of the message, and the blocks
 
 module _ (m : List ℕ) (end : ℕ) where
-  pub end-left : (eqb (versionOf m) 1 && ltb end (length m)) ≡ true → 9 ≡ numberIn (endFault m end)
+  pub end-left : (eqb (versionOf m) 1 && ltb end (length m)) ≡ true → numberOf leftOver ≡ numberIn (endFault m end)
   unfolding endFault
   end-left t = rw t
 
@@ -67,18 +67,18 @@ module _ (m : List ℕ) (end : ℕ) where
   unfolding endFault
   end-none t = rw t
 
-module _ (m : List ℕ) (n at : ℕ) (found : List ℕ) {f : ℕ} {left : List ℕ} (l : length left ≡ 5) (h : Finds (walk m n noId at) at found f left) where
-  pub blocks-stop : (f ≡ 0 → ⊥) → Judged true (blocksFrom m n at) at found f left
+module _ (layouts : ℕ → Layout) (m : List ℕ) (n at : ℕ) (found : List ℕ) {f : ℕ} {left : List ℕ} (l : length left ≡ 5) (h : Finds (walk layouts (setOf m) m n noId at) at found f left) where
+  pub blocks-stop : (f ≡ 0 → ⊥) → Judged true (blocksFrom layouts m n at) at found f left
   unfolding blocksFrom
-  blocks-stop z = go (walk m n noId at) h
+  blocks-stop z = go (walk layouts (setOf m) m n noId at) h
     where
       go : (w : Checked Walked) → Finds w at found f left → Judged true (andThen w λ w. andThen (endFault m (w .end)) λ _. accept (w .blocks)) at found f left
       go (refuse x) h = judged-refused h z l
       go (accept w) h = absurd (z (h .0))
 
-  pub blocks-end : {g : ℕ} → f ≡ 0 → g ≡ numberIn (endFault m (getD left 4 0)) → Judged true (blocksFrom m n at) at found g left
+  pub blocks-end : {g : ℕ} → f ≡ 0 → g ≡ numberIn (endFault m (getD left 4 0)) → Judged true (blocksFrom layouts m n at) at found g left
   unfolding blocksFrom
-  blocks-end {g} z e = go (walk m n noId at) h
+  blocks-end {g} z e = go (walk layouts (setOf m) m n noId at) h
     where
       last : (w : Walked) (c : Checked (Unit {0})) → left ≡ noted (w .blocks) at found → g ≡ numberIn c → Judged true (andThen c λ _. accept (w .blocks)) at found g left
       last w (refuse x) p e = judged-refused e (λ z. no-zero x (sym e ∙ z)) l
@@ -91,62 +91,49 @@ module _ (m : List ℕ) (n at : ℕ) (found : List ℕ) {f : ℕ} {left : List �
 -- ---- the version, and what follows the head
 
 module _ (m : List ℕ) where
-  pub body-unread : readable (versionOf m) (idOf m) ≡ false → 4 ≡ numberIn (body m)
+  pub body-unread : readable (versionOf m) (idOf m) ≡ false → numberOf wrongVersion ≡ numberIn (body m)
   unfolding body
   body-unread e = rw e
 
-  module _ (r : readable (versionOf m) (idOf m) ≡ true) where
-    pub body-short : length m < blocksAt (idOf m) → 2 ≡ numberIn (body m)
+  module _ (r : readable (versionOf m) (idOf m) ≡ true) (R : Row) (e : row (idOf m) ≡ R) where
+    body-is : afterHead R m ≡ body m
     unfolding body
-    body-short l = rw (r, lt-leb _ _ l)
+    body-is = rw r (ap (λ (R : Row). afterHead R m) (sym e))
 
-    -- message 1
-    module _ (i : idOf m ≡ 1) where
-      pub response-short : length m < 4 → 2 ≡ numberIn (body m)
-      response-short l = body-short (rw i l)
+    pub body-short : length m < blocksAt (R .times) → numberOf endsEarly ≡ numberIn (body m)
+    unfolding afterHead
+    body-short l = rw (← body-is, lt-leb _ _ l)
 
-      pub response-blocks : 4 ≤ length m → blocksFrom m (blockCount 1 (setOf m)) 4 ≡ body m
-      unfolding body
-      response-blocks l = rw (r, i, le-leb 4 (length m) l)
+    module _ (l : blocksAt (R .times) ≤ length m) where
+      pub body-sets : setsAgree (R .times) m ≡ false → numberOf setsDiffer ≡ numberIn (body m)
+      unfolding afterHead
+      body-sets s = rw (← body-is, le-leb (blocksAt (R .times)) (length m) l, s)
 
-    -- message 2
-    module _ (i : idOf m ≡ 2) where
-      pub configuration-short : length m < 6 → 2 ≡ numberIn (body m)
-      configuration-short l = body-short (rw i l)
+      pub body-blocks : setsAgree (R .times) m ≡ true → blocksFrom (layoutsOf (R .blocks)) m (blockCount (R .blocks) (setOf m)) (blocksAt (R .times)) ≡ body m
+      unfolding afterHead
+      body-blocks s = rw (← body-is, le-leb (blocksAt (R .times)) (length m) l, s)
 
-      pub configuration-sets : 6 ≤ length m → eqb (setOf m) (ofLE 2 4 m) ≡ false → 5 ≡ numberIn (body m)
-      unfolding body
-      configuration-sets l s = rw (r, i, le-leb 6 (length m) l, s)
-
-      pub configuration-blocks : 6 ≤ length m → eqb (setOf m) (ofLE 2 4 m) ≡ true → blocksFrom m (blockCount 2 (setOf m)) 6 ≡ body m
-      unfolding body
-      configuration-blocks l s = rw (r, i, le-leb 6 (length m) l, s)
-
-    -- the other messages
-    module _ (b : carriesBlocks (idOf m) ≡ false) where
-      pub set-short : length m < 4 → 2 ≡ numberIn (body m)
-      set-short l = body-short (rw (or-false (eqb (idOf m) 1) (eqb (idOf m) 2) b .1) l)
-
-      pub set-end : 4 ≤ length m → numberIn (endFault m 4) ≡ numberIn (body m)
-      unfolding body blocksFrom walk
-      set-end l = rw (r, b, or-false (eqb (idOf m) 1) (eqb (idOf m) 2) b .1, le-leb 4 (length m) l) (go (endFault m 4))
-        where
-          go : (c : Checked (Unit {0})) → numberIn c ≡ numberIn (andThen {B = List (List ℕ)} c λ _. accept [])
-          go (refuse x) = refl
-          go (accept u) = refl
+  -- after a set alone comes the end
+  pub set-end : readable (versionOf m) (idOf m) ≡ true → row (idOf m) ≡ setAlone → 4 ≤ length m → numberIn (endFault m 4) ≡ numberIn (body m)
+  unfolding blocksFrom walk
+  set-end r e l = rw (← body-blocks r setAlone e l refl) (go (endFault m 4))
+    where
+      go : (c : Checked (Unit {0})) → numberIn c ≡ numberIn (andThen {B = List (List ℕ)} c λ _. accept [])
+      go (refuse x) = refl
+      go (accept u) = refl
 
   -- ---- the whole message
 
-  pub parse-long : messageLimit < length m → 1 ≡ numberIn (parse m)
+  pub parse-long : messageLimit < length m → numberOf tooLong ≡ numberIn (parse m)
   unfolding parse
   parse-long l = rw (lt-leb _ _ l)
 
-  pub parse-short : length m < 2 → 2 ≡ numberIn (parse m)
+  pub parse-short : length m < 2 → numberOf endsEarly ≡ numberIn (parse m)
   unfolding parse
   parse-short l = rw (le-leb (length m) messageLimit (omega arith), lt-leb _ _ l)
 
   module _ (u : length m ≤ messageLimit) (l : 2 ≤ length m) where
-    pub parse-reserved : assigned (idOf m) ≡ false → 3 ≡ numberIn (parse m)
+    pub parse-reserved : assigned (idOf m) ≡ false → numberOf reservedId ≡ numberIn (parse m)
     unfolding parse
     parse-reserved e = rw (le-leb (length m) messageLimit u, le-leb 2 (length m) l, e)
 

@@ -9,8 +9,11 @@ use lib.Seq.{take-at, set-split, drop-drop, length-take-le, take-length, drop-ap
 use borrow.Author.Tests.{not-true, not-false}
 use mathlib.Core.Bool.{Bool, true, false, not, cond}
 use Rattle.codec.specs.Octets.{toLE}
-use Rattle.codec.specs.Layout.{Layout, Values, write}
-use Rattle.codec.specs.Puts.{over, Put, Sized, blockIf}
+use Rattle.codec.specs.Technology.{Technology, technologyId, names}
+use Rattle.codec.specs.Layout.{Layout, number, octets, counted, Values, Typed, write}
+use Rattle.codec.specs.Blocks.{Column, cell}
+use Rattle.codec.specs.Puts.{over, Put, blockIf, taken, blockSize, chain, chainSize, Held}
+use Rattle.codec.proofs.Laws.{long-LE}
 
 module _ (d : List ℕ) (at : ℕ) where
   length-over : (ws : List ℕ) → at + length ws ≤ length d → length (over d at ws) ≡ length d
@@ -85,9 +88,41 @@ module _ (present : Bool) where
   pub room-present : (size room at : ℕ) → not present ≡ false → at + cond present size 0 ≤ room → at + size ≤ room
   room-present size room at h l = rw (not-false present h) at l
 
--- the size of a block that is there
-pub sized : (present : Bool) (L : Layout) (id : ℕ) (v : Values L) (size r : ℕ) → present ≡ true → r ≡ size → 2 + length (write L v) ≡ size → Sized present L id v size r
-sized present L id v size r h e n = record { is = rw h e; long = rw h (omega (arith, n)) }
+-- ---- how many octets are written
 
-pub unsized : (present : Bool) (L : Layout) (id : ℕ) (v : Values L) (size : ℕ) → present ≡ false → Sized present L id v size 0
-unsized present L id v size h = record { is = rw h; long = rw h }
+write-taken : (L : Layout) (v : Values L) → Typed L v → Held L v → length (write L v) ≡ taken L v
+write-taken [] v h k = refl
+write-taken (number x w t ∷ L) v h k = simp length-append (omega (arith, write-taken L (v .1) (h .1) k, long-LE w (v .0)))
+write-taken (octets x n t ∷ L) v h k = simp length-append (omega (arith, write-taken L (v .1) (h .1 .1) k, h .0))
+write-taken (counted y x t c ∷ L) v h k = simp length-append (omega (arith, write-taken L (v .1 .1) (h .1 .1 .1) (k .1), length-take-le (v .0) (v .1 .0) (omega (arith, k .0, h .1 .0))))
+
+-- room for octets from a place on
+pub record Room (d : List ℕ) (at : ℕ) (ws : List ℕ) : Type 0 where
+  pub fits : at + length ws ≤ length d
+
+-- the blocks of a column, one after the other
+module _ (k : Column) (set : ℕ) (v : (t : Technology) → Values (cell k t)) (T : (t : Technology) → Typed (cell k t) (v t)) (H : (t : Technology) → Held (cell k t) (v t)) where
+  abbrev BlockIf : Bool → Technology → List ℕ
+  BlockIf p t = blockIf p (cell k t) (technologyId t) (v t)
+
+  block-size : (p : Bool) (t : Technology) → length (BlockIf p t) ≡ cond p (blockSize (cell k t) (v t)) 0
+  block-size true t = omega (arith, write-taken (cell k t) (v t) (T t) (H t))
+  block-size false t = refl
+
+  pub chain-size : (ts : List Technology) → length (chain k set v ts) ≡ chainSize k set v ts
+  chain-size [] = refl
+  chain-size (t ∷ others) = length-append (BlockIf (names set t) t) (chain k set v others) ∙ omega (arith, block-size (names set t) t, chain-size others)
+
+  -- room for the first of them and, when it is written, for the others
+  module _ (t : Technology) (others : List Technology) {d : List ℕ} {at : ℕ} (r : Room d at (chain k set v (t ∷ others))) {p : Bool} (e : p ≡ names set t) where
+    split : length (chain k set v (t ∷ others)) ≡ cond p (blockSize (cell k t) (v t)) 0 + length (chain k set v others)
+    split = length-append (BlockIf (names set t) t) (chain k set v others) ∙ rw e (omega (arith, block-size (names set t) t))
+
+    pub room-first : at + cond p (blockSize (cell k t) (v t)) 0 ≤ length d
+    room-first = omega (arith, r .fits, split)
+
+    pub room-others : {f : List ℕ} {next : ℕ} → Put d at (BlockIf p t) f next → Room f next (chain k set v others)
+    room-others q = record { fits = omega (arith, r .fits, split, q .place, q .same, block-size p t) }
+
+  pub put-chain : (t : Technology) (others : List Technology) {d e f : List ℕ} {at next end : ℕ} {p : Bool} → p ≡ names set t → Put d at (BlockIf p t) e next → Put e next (chain k set v others) f end → Put d at (chain k set v (t ∷ others)) f end
+  put-chain t others h a b = put-then (rw h at a) b

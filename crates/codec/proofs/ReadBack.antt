@@ -1,121 +1,130 @@
 -- The normal form of a valid record is well formed with that record, fits the message limit and is in normal form; so reading it gives the record back.
-use Prim.Native.Nat.{ℕ, suc, _≤_, _<_}
+use Prim.Native.Nat.{ℕ, zero, suc, _≤_, _<_}
 use native.Mathlib.Omega.{arith}
 use native.Mathlib.Nat.{mod-eq-of-lt}
 use mathlib.Core.Logic.{inl}
 use mathlib.Core.Path.{_≡_, refl, sym, ap, _∙_}
-use mathlib.Core.Bool.{Bool, true, false, cond}
+use mathlib.Core.Option.{Option, none, some}
+use mathlib.Core.Bool.{true, cond}
 use mathlib.Core.List.{List, [], _∷_, _++_, append-nil, flatten}
 use lib.Dec.{ltb, eqb}
 use lib.ListN.{length, getD, length-append}
-use borrow.Author.Tests.{eqb-true, ltb-true}
+use borrow.Author.Tests.{eq-eqb, ltb-true, lt-ltb}
 use Rattle.codec.specs.Octets.{Octets, toLE}
-use Rattle.codec.specs.Layout.{need}
-use Rattle.codec.specs.Technology.{known}
-use Rattle.codec.specs.Records.{capabilities, configurations}
-use Rattle.codec.specs.Message.{messageLimit, assigned, blockCount, layoutsOf, recordOf}
+use Rattle.codec.specs.Technology.{Technology, technologyId, technologies, setLimit, known, names}
+use Rattle.codec.specs.Layout.{zeroes, allowed, cleared, value, need}
+use Rattle.codec.specs.Blocks.{Column, capabilities, configurations, columns, cell, layouts}
+use Rattle.codec.specs.Table.{messageLimit, assigned, messageOf, row, blockCount, layoutsOf, setIn}
+use Rattle.codec.specs.Records.{columnIn, ofRecord, fields}
+use Rattle.codec.specs.Message.{fieldsIn}
 use Rattle.codec.specs.WellFormed.{Whole, Each, sets, WellFormed}
-use Rattle.codec.specs.Valid.{TypedRecord, setIn, validColumn, valid}
-use Rattle.codec.specs.NormalForm.{columnBlocks, blocksOf, normal, Rising, NormalForm}
+use Rattle.codec.specs.Valid.{TypedRecord, validFields, validColumn, valid}
+use Rattle.codec.specs.NormalForm.{rising, columnBlocks, blocksOf, normal, Rising, NormalForm}
 use Rattle.codec.specs.declared.records.Record.{Record}
 use Rattle.codec.proofs.Outcomes.{by-bool, and-true}
+use Rattle.codec.proofs.Fields.{octets-none, octets-cons, octets-append, octets-LE, zeroed-only}
 use Rattle.codec.proofs.Counting.{count-under}
-use Rattle.codec.proofs.Columns.{rising-once, rising-rises, rising-count, capabilities-lawful, configurations-lawful, column-size, column-whole, column-exact, column-back, column-blank, octets-column, flatten-append}
-use Rattle.codec.proofs.Fields.{octets-none, octets-cons, octets-append, octets-LE}
+use Rattle.codec.proofs.Every.{a-technology, a-column, every-at, every-all}
+use Rattle.codec.proofs.Cells.{layout-of, record-is}
+use Rattle.codec.proofs.Risings.{rising-once, ascending, total, Block, rising-each, rising-rises, rising-count, rising-fields, rising-size, octets-rising, block-back}
+use Rattle.codec.proofs.Rows.{Carries, column, carries, column-there, times-two, named-there}
 
--- what the blocks that are written keep
-record Good (r : Record) (blocks : List (List ℕ)) : Type 0 where
-  whole : Each (Whole (layoutsOf (r .id)) (r .set)) blocks
-  exact : Each (λ b. length b ≡ need (layoutsOf (r .id) (getD b 0 0)) 2 b) blocks
-  rises : Rising blocks
-  count : length blocks ≡ blockCount (r .id) (r .set)
-  size : length (flatten blocks) ≤ 137
-  says : r ≡ recordOf (r .id) (r .set) blocks
+octets-sets : (times set : ℕ) → set < 65536 → Octets (sets times set)
+octets-sets zero set h = octets-none
+octets-sets (suc n) set h = octets-append (toLE 2 set) (sets n set) (octets-LE 2 set h) (octets-sets n set h)
+
+sets-short : (times set : ℕ) → times ≤ 2 → length (sets times set) ≤ 4
+sets-short zero set h = omega arith
+sets-short (suc zero) set h = omega arith
+sets-short (suc (suc zero)) set h = omega arith
+sets-short (suc (suc (suc n))) set h = absurd (omega arith)
+
+-- 01's largest column takes 137 octets
+column-short : (k : Column) → total k technologies ≤ 137
+column-short capabilities = omega arith
+column-short configurations = omega arith
+
+-- what `valid` says, one by one
+pub record Validity (r : Record) : Type 0 where
+  pub known : assigned (r .id) ≡ true
+  pub set : r .set < setLimit
+  pub cells : (k : Column) (t : Technology) → validFields (cell k t) (names (setIn (r .id) (r .set) k) t) (ofRecord r k t) ≡ true
+
+pub passes : (r : Record) → valid r ≡ true → Validity r
+unfolding valid validColumn
+passes r e =
+    let a = and-true (assigned (r .id)) _ e in
+    let b = and-true (ltb (r .set) setLimit) _ (a .1) in
+    record {
+      known = a .0;
+      set = ltb-true _ _ (b .0);
+      cells = λ k t. every-at (λ t. validFields (cell k t) (names (setIn (r .id) (r .set) k) t) (ofRecord r k t)) t (every-at (λ k. validColumn k (setIn (r .id) (r .set) k) (columnIn r k)) k (b .1) (a-column k)) (a-technology t);
+    }
+
+pub passed : (r : Record) → Validity r → valid r ≡ true
+unfolding valid validColumn
+passed r p =
+    rw (
+      p .known,
+      lt-ltb (r .set) setLimit (p .set),
+      every-all (λ k. validColumn k (setIn (r .id) (r .set) k) (columnIn r k)) columns (λ k. every-all (λ t. validFields (cell k t) (names (setIn (r .id) (r .set) k) t) (ofRecord r k t)) technologies (p .cells k)),
+    )
 
 module _ (r : Record) (T : TypedRecord r) (ok : valid r ≡ true) where
-  assigned-id : assigned (r .id) ≡ true
-  unfolding valid
-  assigned-id = and-true (assigned (r .id)) _ ok .0
+  -- a technology whose block is written
+  module _ (k : Column) (t : Technology) (y : eqb (r .id) (messageOf k) ≡ true) (n : names (r .set) t ≡ true) where
+    fields-ok : (allowed (cell k t) (ofRecord r k t) ≡ true) × (cleared (cell k t) (ofRecord r k t) ≡ true)
+    fields-ok = let e : validFields (cell k t) true (ofRecord r k t) ≡ true = rw (y, n) at (passes r ok .cells k t) in and-true (allowed (cell k t) (ofRecord r k t)) (cleared (cell k t) (ofRecord r k t)) e
 
-  columns-ok : (r .set < 16) × (validColumn capabilities (setIn 1 r) (r .capability) ≡ true) × (validColumn configurations (setIn 2 r) (r .configuration) ≡ true)
-  unfolding valid
-  columns-ok =
-      let a = and-true (assigned (r .id)) _ ok in
-      let b = and-true (ltb (r .set) 16) _ (a .1) in
-      let c = and-true (validColumn capabilities (setIn 1 r) (r .capability)) _ (b .1) in
-      (ltb-true _ _ (b .0), c .0, c .1)
+    its-back : (value (cell k t) 2 (Block k (ofRecord r k) (r .set) t) ≡ ofRecord r k t) × (need (cell k t) 2 (Block k (ofRecord r k) (r .set) t) ≡ length (Block k (ofRecord r k) (r .set) t))
+    its-back = block-back k (ofRecord r k) (r .set) (T .cells k) t (fields-ok .0) (fields-ok .1)
 
-  small : r .set < 16
-  small = columns-ok .0
+    its-whole : Whole (layouts k) (r .set) (Block k (ofRecord r k) (r .set) t)
+    its-whole = record { named = n; size = omega arith; enough = rw (layout-of k t) (omega (arith, its-back .1)); fields = rw (layout-of k t, its-back .0) (fields-ok .0) }
 
-  set-known : known (r .set) ≡ r .set
-  set-known = mod-eq-of-lt small
+    its-exact : length (Block k (ofRecord r k) (r .set) t) ≡ need (layouts k (technologyId t)) 2 (Block k (ofRecord r k) (r .set) t)
+    its-exact = rw (layout-of k t) (sym (its-back .1))
 
-  good : Good r (blocksOf r)
+  -- what the blocks that are written keep
+  record Good (c : Option Column) : Type 0 where
+    whole : Each (Whole (layoutsOf c) (r .set)) (columnBlocks c r)
+    exact : Each (λ b. length b ≡ need (layoutsOf c (getD b 0 0)) 2 b) (columnBlocks c r)
+    rises : Rising (columnBlocks c r)
+    count : length (columnBlocks c r) ≡ blockCount c (r .set)
+    size : length (flatten (columnBlocks c r)) ≤ 137
+    octets : Octets (flatten (columnBlocks c r))
+
+  good : (c : Option Column) → Carries (r .id) c → Good c
   unfolding flatten
-  good =
-      by-bool (eqb (r .id) 1)
-      (λ y.
-      let n : eqb (r .id) 2 ≡ false = rw (eqb-true (r .id) 1 y) in
-      let p : validColumn capabilities (r .set) (r .capability) ≡ true = rw y at (columns-ok .1) in
-      let q = column-blank configurations configurations-lawful (r .configuration) (T .configuration) (rw n at (columns-ok .2)) in
-      let C = columnBlocks capabilities (r .set) (r .capability) in
-      let e : blocksOf r ≡ C = rw (y, n) (append-nil C) in
-      rw e (record {
-        whole = rw y (column-whole capabilities capabilities-lawful (r .set) (r .capability) (T .capability) p);
-        exact = rw y (column-exact capabilities capabilities-lawful (r .set) (r .capability) (T .capability) p);
-        rises = rising-rises capabilities (capabilities-lawful .fit) (r .set) (r .capability) 4 0;
-        count = rw y (rising-count capabilities (capabilities-lawful .fit) (r .set) (r .capability) 4 0 ∙ sym (count-under 4 (r .set) small));
-        size = omega (arith, column-size capabilities capabilities-lawful (r .set) (r .capability) (T .capability) 4 0);
-        says = rw (y, n) λ i. record {
-          id = r .id;
-          set = sym set-known i;
-          capability = sym (column-back capabilities capabilities-lawful (r .set) (r .capability) (T .capability) p) i;
-          configuration = q i;
-        };
-      }))
-      (λ n.
-      let p = column-blank capabilities capabilities-lawful (r .capability) (T .capability) (rw n at (columns-ok .1)) in
-      by-bool (eqb (r .id) 2)
-      (λ y.
-      let q : validColumn configurations (r .set) (r .configuration) ≡ true = rw y at (columns-ok .2) in
-      let e : blocksOf r ≡ columnBlocks configurations (r .set) (r .configuration) = rw (n, y) in
-      rw e (record {
-        whole = rw n (column-whole configurations configurations-lawful (r .set) (r .configuration) (T .configuration) q);
-        exact = rw n (column-exact configurations configurations-lawful (r .set) (r .configuration) (T .configuration) q);
-        rises = rising-rises configurations (configurations-lawful .fit) (r .set) (r .configuration) 4 0;
-        count = rw (n, y) (rising-count configurations (configurations-lawful .fit) (r .set) (r .configuration) 4 0 ∙ sym (count-under 4 (r .set) small));
-        size = omega (arith, column-size configurations configurations-lawful (r .set) (r .configuration) (T .configuration) 4 0);
-        says = rw (n, y) λ i. record {
-          id = r .id;
-          set = sym set-known i;
-          capability = p i;
-          configuration = sym (column-back configurations configurations-lawful (r .set) (r .configuration) (T .configuration) q) i;
-        };
-      }))
-      (λ n₂.
-      let q = column-blank configurations configurations-lawful (r .configuration) (T .configuration) (rw n₂ at (columns-ok .2)) in
-      let e : blocksOf r ≡ [] = rw (n, n₂) in
-      rw e (record {
-        whole = tt;
-        exact = tt;
-        rises = tt;
-        count = rw (n, n₂);
-        size = omega arith;
-        says = rw (n, n₂) λ i. record { id = r .id; set = sym set-known i; capability = p i; configuration = q i };
-      })))
+  good none h = record { whole = tt; exact = tt; rises = tt; count = refl; size = omega arith; octets = octets-none }
+  good (some k) (column _ e) =
+      let v = ofRecord r k in
+      let y = eq-eqb (r .id) (messageOf k) e in
+      record {
+        whole = rising-each k v (r .set) (Whole (layouts k) (r .set)) technologies (λ t u n. its-whole k t y n);
+        exact = rising-each k v (r .set) (λ b. length b ≡ need (layouts k (getD b 0 0)) 2 b) technologies (λ t u n. its-exact k t y n);
+        rises = rising-rises k v (r .set) technologies ascending;
+        count = rising-count k v (r .set) technologies ∙ sym (count-under 4 (r .set) (passes r ok .set));
+        size = omega (arith, rising-size k v (r .set) (T .cells k) technologies, column-short k);
+        octets = octets-rising k v (r .set) (T .cells k) technologies;
+      }
 
-  sets-short : length (sets (r .id) (r .set)) ≤ 4
-  sets-short = go (eqb (r .id) 2)
-    where
-      go : (b : Bool) → length (toLE 2 (r .set) ++ cond b (toLE 2 (r .set)) []) ≤ 4
-      go true = omega arith
-      go false = omega arith
+  blocks-good : Good (row (r .id) .blocks)
+  blocks-good = good (row (r .id) .blocks) (carries (r .id))
+
+  -- every field of the record is read back, or is zero
+  fields-back : (k : Column) (t : Technology) → ofRecord r k t ≡ cond (names (setIn (r .id) (r .set) k) t) (fieldsIn (cell k t) (technologyId t) (blocksOf r)) (zeroes (cell k t))
+  fields-back k t =
+      by-bool (names (setIn (r .id) (r .set) k) t)
+      (λ h. rw h (named-there (r .id) (r .set) k t h λ y n.
+      let b : blocksOf r ≡ columnBlocks (some k) r = ap (λ (c : Option Column). columnBlocks c r) (column-there (r .id) k y) in
+      rw b (sym (rising-fields k (ofRecord r k) (r .set) t ascending (a-technology t) ∙ rw n (its-back k t y n .0)))))
+      (λ h. rw h (zeroed-only (cell k t) (ofRecord r k t) (T .cells k t) (rw h at (passes r ok .cells k t))))
 
   -- it fits the message limit
   normal-fits : length (normal r) ≤ messageLimit
   unfolding normal
-  normal-fits = short (sets (r .id) (r .set)) (flatten (blocksOf r)) sets-short (good .size)
+  normal-fits = short (sets (row (r .id) .times) (r .set)) (flatten (blocksOf r)) (sets-short (row (r .id) .times) (r .set) (times-two (r .id))) (blocks-good .size)
     where
       short : (a b : List ℕ) → length a ≤ 4 → length b ≤ 137 → suc (suc (length (a ++ b))) ≤ messageLimit
       short a b h k = omega (arith, length-append a b)
@@ -123,18 +132,9 @@ module _ (r : Record) (T : TypedRecord r) (ok : valid r ≡ true) where
   pub normal-octets : Octets (normal r)
   unfolding normal
   normal-octets =
-      let c = columnBlocks capabilities (setIn 1 r) (r .capability) in
-      let d = columnBlocks configurations (setIn 2 r) (r .configuration) in
-      let again = cond (eqb (r .id) 2) (toLE 2 (r .set)) [] in
-      let s = octets-LE 2 (r .set) (T .set) in
-      let e : Octets again = by-bool (eqb (r .id) 2) (λ y. rw y s) (λ n. rw n octets-none) in
-      let f : Octets (flatten (blocksOf r)) =
-      rw (flatten-append c d)
-      (octets-append (flatten c) (flatten d)
-      (octets-column capabilities capabilities-lawful (setIn 1 r) (r .capability) (T .capability) 4 0 (omega arith))
-      (octets-column configurations configurations-lawful (setIn 2 r) (r .configuration) (T .configuration) 4 0 (omega arith))) in
-      let g = octets-append (toLE 2 (r .set) ++ again) (flatten (blocksOf r)) (octets-append (toLE 2 (r .set)) again s e) f in
-      octets-cons 1 (r .id ∷ ((toLE 2 (r .set) ++ again) ++ flatten (blocksOf r))) (omega arith) (octets-cons (r .id) ((toLE 2 (r .set) ++ again) ++ flatten (blocksOf r)) (T .id) g)
+      let S = sets (row (r .id) .times) (r .set) in
+      let B = flatten (blocksOf r) in
+      octets-cons 1 (r .id ∷ (S ++ B)) (omega arith) (octets-cons (r .id) (S ++ B) (T .id) (octets-append S B (octets-sets (row (r .id) .times) (r .set) (T .set)) (blocks-good .octets)))
 
   pub normal-formed : WellFormed (normal r) r
   unfolding normal
@@ -144,17 +144,17 @@ module _ (r : Record) (T : TypedRecord r) (ok : valid r ≡ true) where
     set = r .set;
     blocks = blocksOf r;
     rest = [];
-    octets = ap (λ (l : List ℕ). 1 ∷ (r .id ∷ (sets (r .id) (r .set) ++ l))) (sym (append-nil (flatten (blocksOf r))));
+    octets = ap (λ (l : List ℕ). 1 ∷ (r .id ∷ (sets (row (r .id) .times) (r .set) ++ l))) (sym (append-nil (flatten (blocksOf r))));
     limit = normal-fits;
-    assigned = assigned-id;
+    known = passes r ok .known;
     readable = inl refl;
-    count = good .count;
-    whole = good .whole;
-    once = rising-once (blocksOf r) (good .rises);
+    count = blocks-good .count;
+    whole = blocks-good .whole;
+    once = rising-once (blocksOf r) (blocks-good .rises);
     ends = λ e. refl;
-    says = good .says;
+    says = record-is r (known (r .set)) _ (sym (mod-eq-of-lt (passes r ok .set))) fields-back;
   }
 
   pub normal-normal : NormalForm (normal r)
   unfolding normal-formed
-  normal-normal = record { content = r; formed = normal-formed; first = refl; known = small; rising = good .rises; exact = good .exact }
+  normal-normal = record { content = r; formed = normal-formed; first = refl; known = passes r ok .set; rising = blocks-good .rises; exact = blocks-good .exact }

@@ -11,9 +11,10 @@ use denote.Builtin.{u8}
 use denote.Shadow.{shadow}
 use denote.Struct.Laws.{owed}
 use Rattle.codec.specs.Octets.{Octets}
+use Rattle.codec.specs.Technology.{Technology, uwb, cs, nan, rssi}
 use Rattle.codec.specs.Layout.{Typed}
-use Rattle.codec.specs.Blocks.{uwbCapability, csCapability, nanCapability, uwbConfiguration, csConfiguration, nanConfiguration, rssiBlock, capabilityBlock, configurationBlock}
-use Rattle.codec.specs.Records.{ofUwbCapability, ofCsCapability, ofNanCapability, ofUwbConfiguration, ofCsConfiguration, ofNanConfiguration, ofRssi, ofCapability, ofConfiguration}
+use Rattle.codec.specs.Blocks.{uwbCapability, csCapability, nanCapability, uwbConfiguration, csConfiguration, nanConfiguration, rssiBlock, Column, capabilities, configurations, cell}
+use Rattle.codec.specs.Records.{ofUwbCapability, ofCsCapability, ofNanCapability, ofUwbConfiguration, ofCsConfiguration, ofNanConfiguration, ofRssi, fields, ofRecord}
 use Rattle.codec.specs.Valid.{TypedRecord}
 use Rattle.codec.specs.declared.uwb.UwbCapability.{UwbCapability}
 use Rattle.codec.specs.declared.uwb.UwbConfiguration.{UwbConfiguration}
@@ -75,8 +76,8 @@ module _ (vs : List Val) where
       let o = owed NC.the-type NC′.the-laws x vs h in
       (omega (arith, o .0 .1), (omega (arith, o .1 .0 .1), (omega (arith, o .1 .1 .0 .1), (omega (arith, o .1 .1 .1 .0 .1), tt))))
 
-  rssi : (x : Rssi) → Is R.the-row x vs → Typed rssiBlock (ofRssi x)
-  rssi x h = let a = array 6 (x .address) _ (owed R.the-type R′.the-laws x vs h .0) in (a .0, (a .1, tt))
+  rssi-block : (x : Rssi) → Is R.the-row x vs → Typed rssiBlock (ofRssi x)
+  rssi-block x h = let a = array 6 (x .address) _ (owed R.the-type R′.the-laws x vs h .0) in (a .0, (a .1, tt))
 
   uwb-configuration : (x : UwbConfiguration) → Is US.the-row x vs → Typed uwbConfiguration (ofUwbConfiguration x)
   uwb-configuration x h =
@@ -100,24 +101,24 @@ module _ (vs : List Val) where
       let a = array 64 (x .name) _ (o .1 .0) in
       (omega (arith, o .0 .1), (a .0, (a .1, (omega (arith, o .1 .1 .0 .1), (omega (arith, o .1 .1 .1 .0 .1), tt)))))
 
-capability : (x : Capability) (vs : List Val) → Is C.the-row x vs → (id : ℕ) → Typed (capabilityBlock id) (ofCapability x id)
-capability x vs h zero = uwb-capability _ (x .uwb) (owed C.the-type C′.the-laws x vs h .0)
-capability x vs h (suc zero) = cs-capability _ (x .cs) (owed C.the-type C′.the-laws x vs h .1 .0)
-capability x vs h (suc (suc zero)) = nan-capability _ (x .nan) (owed C.the-type C′.the-laws x vs h .1 .1 .0)
-capability x vs h (suc (suc (suc zero))) = rssi _ (x .rssi) (owed C.the-type C′.the-laws x vs h .1 .1 .1 .0)
-capability x vs h (suc (suc (suc (suc id)))) = tt
+pub capability-typed : (x : Capability) (vs : List Val) → Is C.the-row x vs → (t : Technology) → Typed (cell capabilities t) (fields capabilities x t)
+capability-typed x vs h uwb = uwb-capability _ (x .uwb) (owed C.the-type C′.the-laws x vs h .0)
+capability-typed x vs h cs = cs-capability _ (x .cs) (owed C.the-type C′.the-laws x vs h .1 .0)
+capability-typed x vs h nan = nan-capability _ (x .nan) (owed C.the-type C′.the-laws x vs h .1 .1 .0)
+capability-typed x vs h rssi = rssi-block _ (x .rssi) (owed C.the-type C′.the-laws x vs h .1 .1 .1 .0)
 
-configuration : (x : Configuration) (vs : List Val) → Is S.the-row x vs → (id : ℕ) → Typed (configurationBlock id) (ofConfiguration x id)
-configuration x vs h zero = uwb-configuration _ (x .uwb) (owed S.the-type S′.the-laws x vs h .0)
-configuration x vs h (suc zero) = cs-configuration _ (x .cs) (owed S.the-type S′.the-laws x vs h .1 .0)
-configuration x vs h (suc (suc zero)) = nan-configuration _ (x .nan) (owed S.the-type S′.the-laws x vs h .1 .1 .0)
-configuration x vs h (suc (suc (suc zero))) = rssi _ (x .rssi) (owed S.the-type S′.the-laws x vs h .1 .1 .1 .0)
-configuration x vs h (suc (suc (suc (suc id)))) = tt
+pub configuration-typed : (x : Configuration) (vs : List Val) → Is S.the-row x vs → (t : Technology) → Typed (cell configurations t) (fields configurations x t)
+configuration-typed x vs h uwb = uwb-configuration _ (x .uwb) (owed S.the-type S′.the-laws x vs h .0)
+configuration-typed x vs h cs = cs-configuration _ (x .cs) (owed S.the-type S′.the-laws x vs h .1 .0)
+configuration-typed x vs h nan = nan-configuration _ (x .nan) (owed S.the-type S′.the-laws x vs h .1 .1 .0)
+configuration-typed x vs h rssi = rssi-block _ (x .rssi) (owed S.the-type S′.the-laws x vs h .1 .1 .1 .0)
 
 pub record-typed : (r : Record) (vs : List Val) → Is T.the-row r vs → TypedRecord r
-record-typed r vs h = let o = owed T.the-type T′.the-laws r vs h in record {
-  id = omega (arith, o .0 .1);
-  set = omega (arith, o .1 .0 .1);
-  capability = capability (r .capability) _ (o .1 .1 .0);
-  configuration = configuration (r .configuration) _ (o .1 .1 .1 .0);
-}
+record-typed r vs h =
+    let o = owed T.the-type T′.the-laws r vs h in
+    record { id = omega (arith, o .0 .1); set = omega (arith, o .1 .0 .1); cells = cells (capability-typed (r .capability) _ (o .1 .1 .0)) (configuration-typed (r .configuration) _ (o .1 .1 .1 .0)) }
+  where
+    cells : ((t : Technology) → Typed (cell capabilities t) (fields capabilities (r .capability) t)) → ((t : Technology) → Typed (cell configurations t) (fields configurations (r .configuration) t))
+        → (k : Column) (t : Technology) → Typed (cell k t) (ofRecord r k t)
+    cells a b capabilities = a
+    cells a b configurations = b

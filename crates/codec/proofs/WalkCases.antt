@@ -5,7 +5,7 @@ use native.Mathlib.Numerals.{sub-one}
 use native.Mathlib.Nat.{add-zero}
 use mathlib.Core.Path.{_≡_, refl, sym, ap, _∙_}
 use mathlib.Core.Bool.{Bool, true, false, not, _&&_, _||_}
-use mathlib.Core.List.{List}
+use mathlib.Core.List.{List, []}
 use lib.Dec.{leb, eqb}
 use lib.ListN.{length, getD, drop, set}
 use lib.Seq.{getD-take, getD-drop, getD-set-same}
@@ -13,11 +13,10 @@ use borrow.Author.Tests.{le-leb, lt-leb, leb-true, leb-false}
 use Rattle.codec.specs.Refusal.{Checked, refuse, accept, demand, andThen, numberIn, endsEarly, wrongBlock, blockTooSmall}
 use Rattle.codec.specs.Layout.{Layout, least, fault}
 use Rattle.codec.specs.Technology.{bit}
-use Rattle.codec.specs.Message.{idOf, setOf, layoutsOf, blockAt, noId, also, blockFault, Walked, prepend, walk}
+use Rattle.codec.specs.Message.{blockAt, noId, also, blockFault, Walked, prepend, walk}
 use Rattle.codec.specs.Places.{sizeFault, fieldsFault, awaitedFault, Awaits, note, noted, Finds}
 use Rattle.codec.proofs.Laws.{part-length}
 use Rattle.codec.proofs.Outcomes.{by-bool, by-number, demanded, chained}
-use Rattle.codec.proofs.BlockCases.{no-layout}
 use Rattle.codec.proofs.Layouts.{least-from}
 
 -- what is left of a message from a place on
@@ -35,9 +34,9 @@ in-turn true true fields = refl
 in-turn true false fields = refl
 in-turn false whole fields = refl
 
-module _ (m : List ℕ) (at : ℕ) where
+module _ (layouts : ℕ → Layout) (m : List ℕ) (at : ℕ) where
   abbrev layoutAt : Layout
-  layoutAt = layoutsOf (idOf m) (getD m at 0)
+  layoutAt = layouts (getD m at 0)
 
   abbrev pub sizeAt : Checked (Unit {0})
   sizeAt = sizeFault (least layoutAt 2) (getD m (at + 1) 0) (length m - at)
@@ -57,48 +56,48 @@ module _ (m : List ℕ) (at : ℕ) where
   pub fits-if : {f : ℕ} → f ≡ numberIn sizeAt → f ≡ 0 → Fits
   fits-if e z = by-number sizeAt (sym e ∙ z) λ u a. fits a
 
-  pub fields-stop : {f : ℕ} → f ≡ numberIn sizeAt → (f ≡ 0 → ⊥) → f ≡ numberIn (fieldsFault m at)
+  pub fields-stop : {f : ℕ} → f ≡ numberIn sizeAt → (f ≡ 0 → ⊥) → f ≡ numberIn (fieldsFault layouts m at)
   fields-stop {f} e h = go sizeAt e
     where
       go : (c : Checked (Unit {0})) → f ≡ numberIn c → f ≡ numberIn (andThen c λ _. fault layoutAt 2 (blockAt m at))
       go (refuse x) e = e
       go (accept u) e = absurd (h e)
 
-  pub fields-next : Fits → numberIn (fault layoutAt 2 (blockAt m at)) ≡ numberIn (fieldsFault m at)
+  pub fields-next : Fits → numberIn (fault layoutAt 2 (blockAt m at)) ≡ numberIn (fieldsFault layouts m at)
   fields-next f = rw (f .accepted)
 
   -- a block of an unknown technology has no fields
-  pub passed-over : 4 ≤ getD m at 0 → numberIn (sizeFault 2 (getD m (at + 1) 0) (length m - at)) ≡ numberIn (fieldsFault m at)
-  passed-over h = rw (no-layout (eqb (idOf m) 1) (getD m at 0) h) (go (sizeFault 2 (getD m (at + 1) 0) (length m - at)))
+  pub passed-over : layoutAt ≡ [] → numberIn (sizeFault 2 (getD m (at + 1) 0) (length m - at)) ≡ numberIn (fieldsFault layouts m at)
+  passed-over h = rw h (go (sizeFault 2 (getD m (at + 1) 0) (length m - at)))
     where
       go : (c : Checked (Unit {0})) → numberIn c ≡ numberIn (andThen c λ _. ok)
       go (refuse x) = refl
       go (accept u) = refl
 
-module _ (m : List ℕ) (awaited at : ℕ) where
+module _ (layouts : ℕ → Layout) (m : List ℕ) (awaited at : ℕ) where
   -- what the head of a block without a fault says
   pub record Headed : Type 0 where
     pub two : at + 2 ≤ length m
     pub comes : bit awaited (getD m at 0) ≡ true
     pub whole : at + getD m (at + 1) 0 ≤ length m
 
-  pub accepted : {f : ℕ} → f ≡ numberIn (awaitedFault m awaited at) → f ≡ 0 → awaitedFault m awaited at ≡ ok
-  accepted e z = by-number {C = awaitedFault m awaited at ≡ ok} (awaitedFault m awaited at) (sym e ∙ z) λ u a. a
+  pub accepted : {f : ℕ} → f ≡ numberIn (awaitedFault layouts m awaited at) → f ≡ 0 → awaitedFault layouts m awaited at ≡ ok
+  accepted e z = by-number {C = awaitedFault layouts m awaited at ≡ ok} (awaitedFault layouts m awaited at) (sym e ∙ z) λ u a. a
 
-  pub headed : {f : ℕ} → f ≡ numberIn (awaitedFault m awaited at) → f ≡ 0 → Headed
+  pub headed : {f : ℕ} → f ≡ numberIn (awaitedFault layouts m awaited at) → f ≡ 0 → Headed
   headed e z =
       demanded (leb (at + 2) (length m)) endsEarly _ tt (accepted e z) λ y₁ e₁.
       demanded (bit awaited (getD m at 0)) wrongBlock _ tt e₁ λ y₂ e₂.
-      chained (sizeAt m at) _ tt e₂ λ v e₃ e₄.
+      chained (sizeAt layouts m at) _ tt e₂ λ v e₃ e₄.
       let two = leb-true _ _ y₁ in
-      record { two = two; comes = y₂; whole = omega (arith, two, fits m at e₃ .whole) }
+      record { two = two; comes = y₂; whole = omega (arith, two, fits layouts m at e₃ .whole) }
 
   -- the fault of a block does not depend on how the IDs that came are kept
-  pub awaited-block : (came : ℕ → Bool) → Awaits m came awaited → awaitedFault m awaited at ≡ blockFault m came at
+  pub awaited-block : (set : ℕ) (came : ℕ → Bool) → Awaits set came awaited → awaitedFault layouts m awaited at ≡ blockFault layouts set m came at
   unfolding blockFault
-  awaited-block came w =
+  awaited-block set came w =
       let size = getD m (at + 1) 0 in
-      let layout = layoutsOf (idOf m) (getD m at 0) in
+      let layout = layouts (getD m at 0) in
       by-bool (leb (at + 2) (length m))
       (λ y.
       let l : at ≤ length m = omega (arith, leb-true (at + 2) (length m) y) in
@@ -106,16 +105,16 @@ module _ (m : List ℕ) (awaited at : ℕ) where
       (λ n. rw n)
 
 -- before the first block all IDs in the set are awaited
-pub awaits-all : (m : List ℕ) → Awaits m noId (setOf m)
-awaits-all m id = go (bit (setOf m) id)
+pub awaits-all : (set : ℕ) → Awaits set noId set
+awaits-all set id = go (bit set id)
   where
     go : (b : Bool) → b ≡ (b && true)
     go true = refl
     go false = refl
 
 -- and past a block all but its ID
-pub awaits-next : (m : List ℕ) (came : ℕ → Bool) (new awaited rest : ℕ) → Awaits m came awaited → ((id : ℕ) → bit rest id ≡ (bit awaited id && not (eqb id new))) → Awaits m (also new came) rest
-awaits-next m came new awaited rest w r id = r id ∙ rw (w id) (go (bit (setOf m) id) (came id) (eqb id new))
+pub awaits-next : (set : ℕ) (came : ℕ → Bool) (new awaited rest : ℕ) → Awaits set came awaited → ((id : ℕ) → bit rest id ≡ (bit awaited id && not (eqb id new))) → Awaits set (also new came) rest
+awaits-next set came new awaited rest w r id = r id ∙ rw (w id) (go (bit set id) (came id) (eqb id new))
   where
     go : (a b c : Bool) → ((a && not b) && not c) ≡ (a && not (c || b))
     go false b c = refl
@@ -123,30 +122,30 @@ awaits-next m came new awaited rest w r id = r id ∙ rw (w id) (go (bit (setOf 
     go true true false = refl
     go true false false = refl
 
-module _ (m : List ℕ) (came : ℕ → Bool) (at : ℕ) where
+module _ (layouts : ℕ → Layout) (set₀ : ℕ) (m : List ℕ) (came : ℕ → Bool) (at : ℕ) where
   abbrev mayCome : Bool
-  mayCome = bit (setOf m) (getD m at 0) && not (came (getD m at 0))
+  mayCome = bit set₀ (getD m at 0) && not (came (getD m at 0))
 
   -- what a block without a fault says
   pub record Sound : Type 0 where
     pub two : at + 2 ≤ length m
     pub comes : mayCome ≡ true
-    pub enough : least (layoutsOf (idOf m) (getD m at 0)) 2 ≤ getD m (at + 1) 0
+    pub enough : least (layouts (getD m at 0)) 2 ≤ getD m (at + 1) 0
     pub whole : at + getD m (at + 1) 0 ≤ length m
-    pub fields : fault (layoutsOf (idOf m) (getD m at 0)) 2 (blockAt m at) ≡ accept tt
+    pub fields : fault (layouts (getD m at 0)) 2 (blockAt m at) ≡ accept tt
     pub size : length (blockAt m at) ≡ getD m (at + 1) 0
     pub first : getD (blockAt m at) 0 0 ≡ getD m at 0
 
-  pub sound : blockFault m came at ≡ accept tt → Sound
+  pub sound : blockFault layouts set₀ m came at ≡ accept tt → Sound
   unfolding blockFault
   sound e =
       demanded (leb (at + 2) (length m)) endsEarly _ tt e λ y₁ e₁.
       demanded mayCome wrongBlock _ tt e₁ λ y₂ e₂.
-      demanded (leb (least (layoutsOf (idOf m) (getD m at 0)) 2) (getD m (at + 1) 0)) blockTooSmall _ tt e₂ λ y₃ e₃.
+      demanded (leb (least (layouts (getD m at 0)) 2) (getD m (at + 1) 0)) blockTooSmall _ tt e₂ λ y₃ e₃.
       demanded (leb (at + getD m (at + 1) 0) (length m)) endsEarly _ tt e₃ λ y₄ e₄.
       let enough = leb-true _ _ y₃ in
       let whole = leb-true _ _ y₄ in
-      let some : 0 < getD m (at + 1) 0 = omega (arith, least-from (layoutsOf (idOf m) (getD m at 0)) 2) in
+      let some : 0 < getD m (at + 1) 0 = omega (arith, least-from (layouts (getD m at 0)) 2) in
       record {
         two = leb-true _ _ y₁;
         comes = y₂;
@@ -158,26 +157,26 @@ module _ (m : List ℕ) (came : ℕ → Bool) (at : ℕ) where
       }
 
   -- one turn of the walk
-  pub find-none : (n : ℕ) (found : List ℕ) → length found ≡ 5 → n ≡ 0 → Finds (walk m n came at) at found 0 (set found 4 at)
+  pub find-none : (n : ℕ) (found : List ℕ) → length found ≡ 5 → n ≡ 0 → Finds (walk layouts set₀ m n came at) at found 0 (set found 4 at)
   unfolding walk
   find-none n found l z = rw z (refl, refl, getD-set-same found 4 at 0 (omega arith))
 
-  pub find-stop : (n f : ℕ) (found left : List ℕ) → (n ≡ 0 → ⊥) → f ≡ numberIn (blockFault m came at) → (f ≡ 0 → ⊥) → Finds (walk m n came at) at found f left
+  pub find-stop : (n f : ℕ) (found left : List ℕ) → (n ≡ 0 → ⊥) → f ≡ numberIn (blockFault layouts set₀ m came at) → (f ≡ 0 → ⊥) → Finds (walk layouts set₀ m n came at) at found f left
   unfolding walk
   find-stop zero f found left n e h = absurd (n refl)
-  find-stop (suc n) f found left p e h = go (blockFault m came at) e
+  find-stop (suc n) f found left p e h = go (blockFault layouts set₀ m came at) e
     where
       go : (c : Checked (Unit {0})) → f ≡ numberIn c
-          → Finds (andThen c λ _. andThen (walk m n (also (getD m at 0) came) (at + getD m (at + 1) 0)) λ w. accept (prepend (blockAt m at) w)) at found f left
+          → Finds (andThen c λ _. andThen (walk layouts set₀ m n (also (getD m at 0) came) (at + getD m (at + 1) 0)) λ w. accept (prepend (blockAt m at) w)) at found f left
       go (refuse x) e = e
       go (accept u) e = absurd (h e)
 
-  pub find-next : (n f : ℕ) (found left : List ℕ) → (n ≡ 0 → ⊥) → Sound → blockFault m came at ≡ accept tt
-      → Finds (walk m (n - 1) (also (getD m at 0) came) (at + getD m (at + 1) 0)) (at + getD m (at + 1) 0) (note (getD m at 0) at found) f left
-      → Finds (walk m n came at) at found f left
+  pub find-next : (n f : ℕ) (found left : List ℕ) → (n ≡ 0 → ⊥) → Sound → blockFault layouts set₀ m came at ≡ accept tt
+      → Finds (walk layouts set₀ m (n - 1) (also (getD m at 0) came) (at + getD m (at + 1) 0)) (at + getD m (at + 1) 0) (note (getD m at 0) at found) f left
+      → Finds (walk layouts set₀ m n came at) at found f left
   unfolding walk
   find-next zero f found left p s a h = absurd (p refl)
-  find-next (suc n) f found left p s a h = rw a (go (walk m n (also (getD m at 0) came) (at + getD m (at + 1) 0)) (rw (sub-one (suc n)) at h))
+  find-next (suc n) f found left p s a h = rw a (go (walk layouts set₀ m n (also (getD m at 0) came) (at + getD m (at + 1) 0)) (rw (sub-one (suc n)) at h))
     where
       go : (c : Checked Walked) → Finds c (at + getD m (at + 1) 0) (note (getD m at 0) at found) f left
           → Finds (andThen c λ w. accept (prepend (blockAt m at) w)) at found f left

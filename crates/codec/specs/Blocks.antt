@@ -1,6 +1,9 @@
 -- The blocks: 01's table, a row for each technology, in the table's order and by its names, with the octets of each field.
-use Prim.Native.Nat.{ℕ, zero, suc}
-use mathlib.Core.List.{[], _∷_}
+use Prim.Native.Nat.{ℕ}
+use mathlib.Core.List.{List, [], _∷_}
+use mathlib.Core.Bool.{cond}
+use lib.Dec.{eqb}
+use Rattle.codec.specs.Technology.{Technology, uwb, cs, nan, rssi, technologyId, technologies}
 use Rattle.codec.specs.Layout.{Test, any, oneOf, between, free, letters, number, octets, counted, Layout}
 
 -- ---- what both columns allow
@@ -93,18 +96,28 @@ nanConfiguration =
 abbrev pub rssiBlock : Layout
 rssiBlock = octets "address" 6 free ∷ []  -- 2-7
 
--- ---- by technology ID. A block with an ID from 4 on has no field that is read.
+-- ---- the table: a column for each message with blocks, and in it a cell for each technology
 
-abbrev pub capabilityBlock : ℕ → Layout
-capabilityBlock zero = uwbCapability
-capabilityBlock (suc zero) = csCapability
-capabilityBlock (suc (suc zero)) = nanCapability
-capabilityBlock (suc (suc (suc zero))) = rssiBlock
-capabilityBlock (suc (suc (suc (suc id)))) = []
+pub data Column : Type 0 where
+  capabilities configurations : Column
 
-abbrev pub configurationBlock : ℕ → Layout
-configurationBlock zero = uwbConfiguration
-configurationBlock (suc zero) = csConfiguration
-configurationBlock (suc (suc zero)) = nanConfiguration
-configurationBlock (suc (suc (suc zero))) = rssiBlock
-configurationBlock (suc (suc (suc (suc id)))) = []
+abbrev pub columns : List Column
+columns = capabilities ∷ configurations ∷ []
+
+abbrev pub cell : Column → Technology → Layout
+cell capabilities uwb = uwbCapability
+cell capabilities cs = csCapability
+cell capabilities nan = nanCapability
+cell capabilities rssi = rssiBlock
+cell configurations uwb = uwbConfiguration
+cell configurations cs = csConfiguration
+cell configurations nan = nanConfiguration
+cell configurations rssi = rssiBlock
+
+-- the layout of a block by its ID, of these technologies; a block with another ID has no field that is read
+abbrev pub layoutFor : Column → List Technology → ℕ → Layout
+layoutFor k [] id = []
+layoutFor k (t ∷ others) id = cond (eqb id (technologyId t)) (cell k t) (layoutFor k others id)
+
+abbrev pub layouts : Column → ℕ → Layout
+layouts k = layoutFor k technologies

@@ -3,6 +3,7 @@ pub mod Octets
 pub mod Technology
 pub mod Layout
 pub mod Blocks
+pub mod Table
 pub mod Records
 pub mod Message
 pub mod WellFormed

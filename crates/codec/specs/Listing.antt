@@ -5,6 +5,8 @@ use mathlib.Core.List.{List, [], _∷_}
 use mathlib.Core.Bool.{Bool}
 use lib.ListN.{length, getD}
 use Rattle.codec.specs.Refusal.{Checked, refuse, accept}
+use Rattle.codec.specs.Layout.{Layout}
+use Rattle.codec.specs.Table.{row}
 use Rattle.codec.specs.Message.{idOf, blocksAt, Walked, walk, parse}
 use Rattle.codec.specs.declared.records.Block.{Block}
 
@@ -25,7 +27,7 @@ listed (accept blocks) at n = nthFrom blocks at n
 
 -- of a message: none if the reader refuses it, or if it carries no blocks
 unfoldable pub nthBlock : List ℕ → ℕ → Block
-nthBlock m n = listed (parse m) (blocksAt (idOf m)) n
+nthBlock m n = listed (parse m) (blocksAt (row (idOf m) .times)) n
 
 -- ---- the blocks that are left from a place on
 
@@ -35,9 +37,11 @@ headAt m at = record { place = at; id = getD m at 0; size = getD m (at + 1) 0 }
 
 -- the walk passes over as many blocks
 pub record Passes (m : List ℕ) (left at : ℕ) : Type 0 where
+  pub layouts : ℕ → Layout
+  pub set : ℕ
   pub came : ℕ → Bool
   pub walked : Walked
-  pub accepted : walk m left came at ≡ accept walked
+  pub accepted : walk layouts set m left came at ≡ accept walked
 
 -- the n-th of them
 abbrev pub Lists : List ℕ → ℕ → ℕ → ℕ → Block → Type 0

@@ -1,15 +1,16 @@
 -- The normal form of a record, and messages in normal form.
-use Prim.Native.Nat.{ℕ, zero, suc, _+_, _<_}
+use Prim.Native.Nat.{ℕ, _+_, _<_}
 use mathlib.Core.Path.{_≡_}
+use mathlib.Core.Option.{Option, none, some}
 use mathlib.Core.Bool.{cond}
 use mathlib.Core.List.{List, [], _∷_, _++_, flatten}
 use lib.ListN.{length, getD}
+use Rattle.codec.specs.Technology.{Technology, technologyId, technologies, setLimit, names}
 use Rattle.codec.specs.Layout.{Layout, Values, write, need}
-use Rattle.codec.specs.Technology.{bit}
-use Rattle.codec.specs.Records.{Column, capabilities, configurations}
-use Rattle.codec.specs.Message.{layoutsOf}
+use Rattle.codec.specs.Blocks.{Column, cell}
+use Rattle.codec.specs.Table.{row, layoutsOf}
+use Rattle.codec.specs.Records.{ofRecord}
 use Rattle.codec.specs.WellFormed.{Each, sets, WellFormed}
-use Rattle.codec.specs.Valid.{setIn}
 use Rattle.codec.specs.declared.records.Record.{Record}
 
 -- ---- of a record: version 1, blocks by rising ID, every size exactly the need, no reserved bit
@@ -18,20 +19,21 @@ use Rattle.codec.specs.declared.records.Record.{Record}
 abbrev pub block : (L : Layout) → ℕ → Values L → List ℕ
 block L id v = id ∷ ((2 + length (write L v)) ∷ write L v)
 
--- the blocks of the n IDs from `id` on that are in the set
-abbrev pub rising : {A : Type 0} → Column A → ℕ → A → ℕ → ℕ → List (List ℕ)
-rising C set a zero id = []
-rising C set a (suc n) id = cond (bit set id) (block (C .layouts id) id (C .fields a id) ∷ rising C set a n (suc id)) (rising C set a n (suc id))
+-- the blocks of those of these technologies that are in the set
+abbrev pub rising : (k : Column) → ((t : Technology) → Values (cell k t)) → ℕ → List Technology → List (List ℕ)
+rising k v set [] = []
+rising k v set (t ∷ others) = cond (names set t) (block (cell k t) (technologyId t) (v t) ∷ rising k v set others) (rising k v set others)
 
-abbrev pub columnBlocks : {A : Type 0} → Column A → ℕ → A → List (List ℕ)
-columnBlocks C set a = rising C set a 4 0
+-- the blocks of a record's column, if it has one
+abbrev pub columnBlocks : Option Column → Record → List (List ℕ)
+columnBlocks none r = []
+columnBlocks (some k) r = rising k (ofRecord r k) (r .set) technologies
 
--- a record has the blocks of one column at the most
 abbrev pub blocksOf : Record → List (List ℕ)
-blocksOf r = columnBlocks capabilities (setIn 1 r) (r .capability) ++ columnBlocks configurations (setIn 2 r) (r .configuration)
+blocksOf r = columnBlocks (row (r .id) .blocks) r
 
 unfoldable pub normal : Record → List ℕ
-normal r = 1 ∷ (r .id ∷ (sets (r .id) (r .set) ++ flatten (blocksOf r)))
+normal r = 1 ∷ (r .id ∷ (sets (row (r .id) .times) (r .set) ++ flatten (blocksOf r)))
 
 -- ---- of a message, on its octets
 
@@ -44,6 +46,6 @@ pub record NormalForm (m : List ℕ) : Type 0 where
   pub content : Record
   pub formed : WellFormed m content
   pub first : formed .version ≡ 1
-  pub known : formed .set < 16
+  pub known : formed .set < setLimit
   pub rising : Rising (formed .blocks)
-  pub exact : Each (λ b. length b ≡ need (layoutsOf (formed .id) (getD b 0 0)) 2 b) (formed .blocks)
+  pub exact : Each (λ b. length b ≡ need (layoutsOf (row (formed .id) .blocks) (getD b 0 0)) 2 b) (formed .blocks)

@@ -1,15 +1,18 @@
 -- What the inner functions of the reader keep: the places of the known technologies' blocks, and what reading a block without a fault rests on.
-use Prim.Native.Nat.{ℕ, _+_, _-_, _≤_, _<_}
+use Prim.Native.Nat.{ℕ, _+_, _-_, _≤_}
 use mathlib.Core.Path.{_≡_}
 use mathlib.Core.List.{List, [], _∷_}
-use mathlib.Core.Bool.{Bool, true, _&&_, not, cond}
+use mathlib.Core.Option.{Option, none, some}
+use mathlib.Core.Bool.{Bool, true, false, _&&_, not, cond}
 use lib.Dec.{leb, ltb, eqb}
 use lib.ListN.{length, getD, set, replicate}
 use Rattle.codec.specs.Refusal.{Checked, refuse, accept, demand, andThen, numberOf, numberIn, endsEarly, wrongBlock, blockTooSmall}
+use Rattle.codec.specs.Technology.{Technology, technologyId, bit, known}
 use Rattle.codec.specs.Layout.{Layout, number, octets, counted, value, least, fault}
-use Rattle.codec.specs.Technology.{bit, known}
-use Rattle.codec.specs.Records.{Column, capabilities, configurations, blank}
-use Rattle.codec.specs.Message.{Walked, idOf, setOf, layoutsOf, blockAt}
+use Rattle.codec.specs.Blocks.{Column, capabilities, configurations, cell, layouts}
+use Rattle.codec.specs.Table.{messageOf, Row}
+use Rattle.codec.specs.Records.{StructOf, make, blank}
+use Rattle.codec.specs.Message.{Walked, idOf, setOf, blockAt}
 use Rattle.codec.specs.declared.records.Record.{Record}
 
 -- the octets of a block reach past its last field, and what is counted fits its array
@@ -25,19 +28,24 @@ Roomy (counted y x t c ∷ L) at s = (getD s at 0 ≤ c) × Roomy L (at + 1 + ge
 abbrev pub sizeFault : ℕ → ℕ → ℕ → Checked (Unit {0})
 sizeFault least size left = demand (leb least size) blockTooSmall (demand (leb size left) endsEarly (accept tt))
 
--- its size and its fields
-abbrev pub fieldsFault : List ℕ → ℕ → Checked (Unit {0})
-fieldsFault m at =
-    let layout = layoutsOf (idOf m) (getD m at 0) in
-    andThen (sizeFault (least layout 2) (getD m (at + 1) 0) (length m - at)) λ _. fault layout 2 (blockAt m at)
+module _ (layouts : ℕ → Layout) (m : List ℕ) where
+  -- its size and its fields
+  abbrev pub fieldsFault : ℕ → Checked (Unit {0})
+  fieldsFault at =
+      let layout = layouts (getD m at 0) in
+      andThen (sizeFault (least layout 2) (getD m (at + 1) 0) (length m - at)) λ _. fault layout 2 (blockAt m at)
+
+  -- its first fault, told from the IDs in the set that have not come yet
+  abbrev pub awaitedFault : ℕ → ℕ → Checked (Unit {0})
+  awaitedFault awaited at = demand (leb (at + 2) (length m)) endsEarly (demand (bit awaited (getD m at 0)) wrongBlock (fieldsFault at))
 
 -- `awaited` has the IDs in the set that have not come yet
-abbrev pub Awaits : List ℕ → (ℕ → Bool) → ℕ → Type 0
-Awaits m came awaited = (id : ℕ) → bit awaited id ≡ (bit (setOf m) id && not (came id))
+abbrev pub Awaits : ℕ → (ℕ → Bool) → ℕ → Type 0
+Awaits set came awaited = (id : ℕ) → bit awaited id ≡ (bit set id && not (came id))
 
--- the first fault of a block, told from those
-abbrev pub awaitedFault : List ℕ → ℕ → ℕ → Checked (Unit {0})
-awaitedFault m awaited at = demand (leb (at + 2) (length m)) endsEarly (demand (bit awaited (getD m at 0)) wrongBlock (fieldsFault m at))
+-- the layouts of the blocks of message 1, or of message 2
+abbrev pub layoutsBy : ℕ → ℕ → Layout
+layoutsBy message = layouts (cond (eqb message 1) capabilities configurations)
 
 -- ---- five numbers: the place of each known technology's block, 0 for none, and the place after the last block
 
@@ -54,6 +62,14 @@ abbrev pub Finds : Checked Walked → ℕ → List ℕ → ℕ → List ℕ → 
 Finds (refuse x) at found f left = f ≡ numberOf x
 Finds (accept w) at found f left = (f ≡ 0) × (left ≡ noted (w .blocks) at found) × (getD left 4 0 ≡ w .end)
 
+-- a message that carries a set alone, and one with blocks
+abbrev pub setAlone : Row
+setAlone = record { times = 1; blocks = none }
+
+abbrev pub carriesBlocks : Option Column → Bool
+carriesBlocks none = false
+carriesBlocks (some k) = true
+
 -- the number of the first fault, and the places where there is none and they are kept
 pub record Judged (kept : Bool) (c : Checked (List (List ℕ))) (at : ℕ) (found : List ℕ) (f : ℕ) (left : List ℕ) : Type 0 where
   pub number : f ≡ numberIn c
@@ -66,19 +82,23 @@ pub record Judged (kept : Bool) (c : Checked (List (List ℕ))) (at : ℕ) (foun
 abbrev pub blockOrZeros : List ℕ → ℕ → List ℕ
 blockOrZeros m at = cond (eqb at 0) (replicate 20 0) (blockAt m at)
 
-abbrev pub columnAt : {A : Type 0} → Column A → List ℕ → List ℕ → A
-columnAt C m found = C .make (λ id. value (C .layouts id) 2 (blockOrZeros m (getD found id 0)))
+abbrev pub columnAt : (k : Column) → List ℕ → List ℕ → StructOf k
+columnAt k m found = make k (λ t. value (cell k t) 2 (blockOrZeros m (getD found (technologyId t) 0)))
+
+-- the column of the message's blocks, or zeros
+abbrev pub columnFound : List ℕ → List ℕ → (k : Column) → StructOf k
+columnFound m found k = cond (eqb (idOf m) (messageOf k)) (columnAt k m found) (blank k)
 
 abbrev pub recordAt : List ℕ → List ℕ → Record
 recordAt m found = record {
   id = idOf m;
   set = known (setOf m);
-  capability = cond (eqb (idOf m) 1) (columnAt capabilities m found) (blank capabilities);
-  configuration = cond (eqb (idOf m) 2) (columnAt configurations m found) (blank configurations);
+  capability = columnFound m found capabilities;
+  configuration = columnFound m found configurations;
 }
 
 -- whole blocks with room for all their fields stand at the places
-pub record Placed (layouts : ℕ → Layout) (m found : List ℕ) : Type 0 where
-  pub whole : (id : ℕ) → id < 4 → (getD found id 0 ≡ 0 → ⊥) → (getD found id 0 + 2 ≤ length m) × (getD found id 0 + getD m (getD found id 0 + 1) 0 ≤ length m)
-  pub roomy : (id : ℕ) → id < 4 → Roomy (layouts id) 2 (blockOrZeros m (getD found id 0))
+pub record Placed (k : Column) (m found : List ℕ) : Type 0 where
+  pub whole : (t : Technology) → let at = getD found (technologyId t) 0 in (at ≡ 0 → ⊥) → (at + 2 ≤ length m) × (at + getD m (at + 1) 0 ≤ length m)
+  pub roomy : (t : Technology) → Roomy (cell k t) 2 (blockOrZeros m (getD found (technologyId t) 0))
   pub size : length found ≡ 5

@@ -1,14 +1,15 @@
 -- What the inner functions of the writer keep, and those that lay out a bench log's listing: octets put into the buffer one piece after the other, and how long the blocks are.
 use Prim.Native.Nat.{ℕ, _+_, _≤_}
-use mathlib.Core.Bool.{Bool, true, false, _&&_, _||_, cond}
+use mathlib.Core.Bool.{Bool, true, false, _||_, cond}
 use mathlib.Core.Path.{_≡_}
 use mathlib.Core.List.{List, [], _∷_, _++_}
 use lib.ListN.{length, take, drop}
 use Rattle.codec.specs.Octets.{toLE}
-use Rattle.codec.specs.Layout.{Layout, Values, zeroed}
-use Rattle.codec.specs.Blocks.{uwbCapability, csCapability, nanCapability, rssiBlock, uwbAfterKey}
-use Rattle.codec.specs.Technology.{bit}
-use Rattle.codec.specs.Records.{Column, capabilities, configurations, ofUwbCapability, ofCsCapability, ofNanCapability, ofRssi}
+use Rattle.codec.specs.Technology.{Technology, technologyId, technologies, names}
+use Rattle.codec.specs.Layout.{Layout, number, octets, counted, Values, zeroed}
+use Rattle.codec.specs.Blocks.{uwbAfterKey, Column, capabilities, configurations, cell}
+use Rattle.codec.specs.Records.{StructOf, fields}
+use Rattle.codec.specs.Valid.{every}
 use Rattle.codec.specs.NormalForm.{block}
 use Rattle.codec.specs.declared.uwb.UwbCapability.{UwbCapability}
 use Rattle.codec.specs.declared.uwb.UwbConfiguration.{UwbConfiguration}
@@ -31,10 +32,15 @@ abbrev pub blockIf : Bool → (L : Layout) → ℕ → Values L → List ℕ
 blockIf true L id v = block L id v
 blockIf false L id v = []
 
--- r octets are what a block takes, if it is there
-pub record Sized (present : Bool) (L : Layout) (id : ℕ) (v : Values L) (size r : ℕ) : Type 0 where
-  pub is : r ≡ cond present size 0
-  pub long : length (blockIf present L id v) ≡ cond present size 0
+-- how many octets a block takes, where what is counted fits its array
+abbrev pub taken : (L : Layout) → Values L → ℕ
+taken [] v = 0
+taken (number x w t ∷ L) v = w + taken L (v .1)
+taken (octets x n t ∷ L) v = n + taken L (v .1)
+taken (counted y x t c ∷ L) v = 1 + v .0 + taken L (v .1 .1)
+
+abbrev pub blockSize : (L : Layout) → Values L → ℕ
+blockSize L v = 2 + taken L v
 
 -- the octets of UWB's sets of channels, preamble indexes and config IDs
 abbrev pub setOctets : UwbCapability → List ℕ
@@ -52,35 +58,33 @@ afterKey v = (v .country, (v .role, (v .mode, tt)))
 abbrev pub head : ℕ → ℕ → List ℕ
 head id set = 1 ∷ (id ∷ toLE 2 set)
 
--- the octets of a column's blocks
-abbrev pub columnOctets : {A : Type 0} → Column A → ℕ → A → List ℕ
-columnOctets C set a =
-    blockIf (bit set 0) (C .layouts 0) 0 (C .fields a 0)
-    ++ (blockIf (bit set 1) (C .layouts 1) 1 (C .fields a 1)
-    ++ (blockIf (bit set 2) (C .layouts 2) 2 (C .fields a 2)
-    ++ blockIf (bit set 3) (C .layouts 3) 3 (C .fields a 3)))
+-- the octets of the blocks of those of these technologies that are in the set, and how many they are
+module _ (k : Column) (set : ℕ) (v : (t : Technology) → Values (cell k t)) where
+  abbrev pub chain : List Technology → List ℕ
+  chain [] = []
+  chain (t ∷ others) = blockIf (names set t) (cell k t) (technologyId t) (v t) ++ chain others
 
--- how long the block of each technology is, if it is there
-pub record Long {A : Type 0} (C : Column A) (set : ℕ) (a : A) (u c n s : ℕ) : Type 0 where
-  pub uwb : length (blockIf (bit set 0) (C .layouts 0) 0 (C .fields a 0)) ≡ cond (bit set 0) u 0
-  pub cs : length (blockIf (bit set 1) (C .layouts 1) 1 (C .fields a 1)) ≡ cond (bit set 1) c 0
-  pub nan : length (blockIf (bit set 2) (C .layouts 2) 2 (C .fields a 2)) ≡ cond (bit set 2) n 0
-  pub rssi : length (blockIf (bit set 3) (C .layouts 3) 3 (C .fields a 3)) ≡ cond (bit set 3) s 0
+  abbrev pub chainSize : List Technology → ℕ
+  chainSize [] = 0
+  chainSize (t ∷ others) = cond (names set t) (blockSize (cell k t) (v t)) 0 + chainSize others
 
-abbrev pub LongCapability : ℕ → Capability → Type 0
-LongCapability set c = Long capabilities set c 20 9 6 8
+abbrev pub columnOctets : (k : Column) → ℕ → StructOf k → List ℕ
+columnOctets k set c = chain k set (fields k c) technologies
 
-abbrev pub LongConfiguration : ℕ → Configuration → Type 0
-LongConfiguration set c = Long configurations set c (19 + c .uwb .«key_length») 9 (5 + c .nan .«name_length») 8
+abbrev pub columnSize : (k : Column) → ℕ → StructOf k → ℕ
+columnSize k set c = chainSize k set (fields k c) technologies
 
--- the key and the name of a Configuration fit their arrays
+-- what is counted fits its array
+abbrev pub Held : (L : Layout) → Values L → Type 0
+Held [] v = Unit {0}
+Held (number x w t ∷ L) v = Held L (v .1)
+Held (octets x n t ∷ L) v = Held L (v .1)
+Held (counted y x t c ∷ L) v = (v .0 ≤ c) × Held L (v .1 .1)
+
+-- so do the key and the name of a Configuration
 abbrev pub Fit : Configuration → Type 0
-Fit c = (c .uwb .«key_length» ≤ 32) × (c .nan .«name_length» ≤ 64)
+Fit c = (t : Technology) → Held (cell configurations t) (fields configurations c t)
 
 -- the fields of the technologies that a set leaves out of a capability are zero
 abbrev pub restZero : ℕ → Capability → Bool
-restZero set c =
-    (bit set 0 || zeroed uwbCapability (ofUwbCapability (c .uwb)))
-    && ((bit set 1 || zeroed csCapability (ofCsCapability (c .cs)))
-    && ((bit set 2 || zeroed nanCapability (ofNanCapability (c .nan)))
-    && (bit set 3 || zeroed rssiBlock (ofRssi (c .rssi)))))
+restZero set c = every technologies (λ t. names set t || zeroed (cell capabilities t) (fields capabilities c t))

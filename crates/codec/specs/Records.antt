@@ -1,9 +1,9 @@
 -- Records: the structs of the code as columns of 01's table. A record does not hold the version.
-use Prim.Native.Nat.{ℕ, zero, suc}
+use Prim.Native.Nat.{ℕ}
 use mathlib.Core.Bool.{cond}
-use Rattle.codec.specs.Technology.{Technology, uwb, cs, nan, rssi, bit}
-use Rattle.codec.specs.Layout.{Layout, Values, zeroes}
-use Rattle.codec.specs.Blocks.{uwbCapability, csCapability, nanCapability, uwbConfiguration, csConfiguration, nanConfiguration, rssiBlock, capabilityBlock, configurationBlock}
+use Rattle.codec.specs.Technology.{Technology, uwb, cs, nan, rssi, names}
+use Rattle.codec.specs.Layout.{Values, zeroes}
+use Rattle.codec.specs.Blocks.{uwbCapability, csCapability, nanCapability, uwbConfiguration, csConfiguration, nanConfiguration, rssiBlock, Column, capabilities, configurations, cell}
 use Rattle.codec.specs.Refusal.{Checked, refuse, accept, numberOf}
 use Rattle.codec.specs.declared.uwb.UwbCapability.{UwbCapability}
 use Rattle.codec.specs.declared.uwb.UwbConfiguration.{UwbConfiguration}
@@ -86,44 +86,29 @@ ofNanConfiguration r = (r .«name_length», (r .name, (r .role, (r .periodic, tt
 abbrev pub ofRssi : Rssi → Values rssiBlock
 ofRssi r = (r .address, tt)
 
-abbrev pub ofCapability : Capability → (id : ℕ) → Values (capabilityBlock id)
-ofCapability r zero = ofUwbCapability (r .uwb)
-ofCapability r (suc zero) = ofCsCapability (r .cs)
-ofCapability r (suc (suc zero)) = ofNanCapability (r .nan)
-ofCapability r (suc (suc (suc zero))) = ofRssi (r .rssi)
-ofCapability r (suc (suc (suc (suc id)))) = tt
+-- ---- a column: the struct of the code that holds it, and the fields of each technology in it
 
-abbrev pub ofConfiguration : Configuration → (id : ℕ) → Values (configurationBlock id)
-ofConfiguration r zero = ofUwbConfiguration (r .uwb)
-ofConfiguration r (suc zero) = ofCsConfiguration (r .cs)
-ofConfiguration r (suc (suc zero)) = ofNanConfiguration (r .nan)
-ofConfiguration r (suc (suc (suc zero))) = ofRssi (r .rssi)
-ofConfiguration r (suc (suc (suc (suc id)))) = tt
+abbrev pub StructOf : Column → Type 0
+StructOf capabilities = Capability
+StructOf configurations = Configuration
 
--- ---- a column: the layout for each technology ID, and the struct with the fields of each
+abbrev pub make : (k : Column) → ((t : Technology) → Values (cell k t)) → StructOf k
+make capabilities v = record { uwb = toUwbCapability (v uwb); cs = toCsCapability (v cs); nan = toNanCapability (v nan); rssi = toRssi (v rssi) }
+make configurations v = record { uwb = toUwbConfiguration (v uwb); cs = toCsConfiguration (v cs); nan = toNanConfiguration (v nan); rssi = toRssi (v rssi) }
 
-pub record Column (A : Type 0) : Type 0 where
-  pub layouts : ℕ → Layout
-  pub make : ((id : ℕ) → Values (layouts id)) → A
-  pub fields : A → (id : ℕ) → Values (layouts id)
-
-abbrev pub capabilities : Column Capability
-capabilities = record {
-  layouts = capabilityBlock;
-  make = λ v. record { uwb = toUwbCapability (v 0); cs = toCsCapability (v 1); nan = toNanCapability (v 2); rssi = toRssi (v 3) };
-  fields = ofCapability;
-}
-
-abbrev pub configurations : Column Configuration
-configurations = record {
-  layouts = configurationBlock;
-  make = λ v. record { uwb = toUwbConfiguration (v 0); cs = toCsConfiguration (v 1); nan = toNanConfiguration (v 2); rssi = toRssi (v 3) };
-  fields = ofConfiguration;
-}
+abbrev pub fields : (k : Column) → StructOf k → (t : Technology) → Values (cell k t)
+fields capabilities c uwb = ofUwbCapability (c .uwb)
+fields capabilities c cs = ofCsCapability (c .cs)
+fields capabilities c nan = ofNanCapability (c .nan)
+fields capabilities c rssi = ofRssi (c .rssi)
+fields configurations c uwb = ofUwbConfiguration (c .uwb)
+fields configurations c cs = ofCsConfiguration (c .cs)
+fields configurations c nan = ofNanConfiguration (c .nan)
+fields configurations c rssi = ofRssi (c .rssi)
 
 -- all fields zero
-abbrev pub blank : {A : Type 0} → Column A → A
-blank C = C .make (λ id. zeroes (C .layouts id))
+abbrev pub blank : (k : Column) → StructOf k
+blank k = make k (λ t. zeroes (cell k t))
 
 -- ---- what a technology's block says in message 1, and in message 2
 
@@ -152,7 +137,20 @@ settingsIn c cs = c .cs
 settingsIn c nan = c .nan
 settingsIn c rssi = c .rssi
 
--- ---- records of one message
+-- ---- records
+
+-- with the fields of every technology in every column
+abbrev pub toRecord : (id set : ℕ) → ((k : Column) (t : Technology) → Values (cell k t)) → Record
+toRecord id set v = record { id = id; set = set; capability = make capabilities (v capabilities); configuration = make configurations (v configurations) }
+
+abbrev pub columnIn : Record → (k : Column) → StructOf k
+columnIn r capabilities = r .capability
+columnIn r configurations = r .configuration
+
+abbrev pub ofRecord : Record → (k : Column) (t : Technology) → Values (cell k t)
+ofRecord r k t = fields k (columnIn r k) t
+
+-- ---- of one message
 
 abbrev pub withoutBlocks : ℕ → ℕ → Record
 withoutBlocks id set = record { id = id; set = set; capability = blank capabilities; configuration = blank configurations }
@@ -166,12 +164,7 @@ response set c = record { id = 1; set = set; capability = c; configuration = bla
 
 -- those that a set names, and all other fields zero
 abbrev pub only : ℕ → Capability → Capability
-only set c = record {
-  uwb = cond (bit set 0) (c .uwb) (blank capabilities .uwb);
-  cs = cond (bit set 1) (c .cs) (blank capabilities .cs);
-  nan = cond (bit set 2) (c .nan) (blank capabilities .nan);
-  rssi = cond (bit set 3) (c .rssi) (blank capabilities .rssi);
-}
+only set c = make capabilities (λ t. cond (names set t) (fields capabilities c t) (zeroes (cell capabilities t)))
 
 -- a Configuration with these blocks
 abbrev pub settings : ℕ → Configuration → Record

@@ -2,7 +2,8 @@
 use Prim.Native.Nat.{ℕ}
 use mathlib.Core.Path.{_≡_}
 use mathlib.Core.List.{List, [], _∷_}
-use Rattle.codec.specs.Records.{capabilities, configurations, blank, withoutBlocks, accepted, refused, answer}
+use Rattle.codec.specs.Blocks.{capabilities, configurations}
+use Rattle.codec.specs.Records.{blank, withoutBlocks, accepted, refused, answer}
 use Rattle.codec.specs.Message.{reading}
 use Rattle.codec.specs.declared.records.Record.{Record}
 use Rattle.codec.specs.declared.records.Reading.{Reading}

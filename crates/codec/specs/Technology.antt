@@ -3,6 +3,7 @@ use Prim.Native.Nat.{ℕ, _+_, _*_, _/_, _%_, _^_}
 use mathlib.Core.Bool.{Bool, cond, _&&_}
 use mathlib.Core.List.{List, [], _∷_, map}
 use lib.Dec.{eqb}
+use lib.ListN.{length}
 
 -- UWB, CS (channel sounding), Wi-Fi NAN RTT, RSSI
 pub data Technology : Type 0 where
@@ -23,9 +24,13 @@ technologies = uwb ∷ cs ∷ nan ∷ rssi ∷ []
 abbrev pub bit : ℕ → ℕ → Bool
 bit set id = eqb (set / 2 ^ id % 2) 1
 
--- bits 4 to 15 are read as zero
+-- a set without reserved bits is below this
+abbrev pub setLimit : ℕ
+setLimit = 2 ^ length technologies
+
+-- reserved bits are read as zero
 abbrev pub known : ℕ → ℕ
-known set = set % 16
+known set = set % setLimit
 
 -- a set names a technology if it has its bit
 abbrev pub names : ℕ → Technology → Bool

@@ -1,40 +1,36 @@
 -- Valid records: the ID is assigned, the set has no reserved bit, every field that is used is allowed, and everything else is zero.
 use Prim.Native.Nat.{ℕ, _<_}
-use mathlib.Core.Bool.{Bool, true, false, _&&_, cond}
-use lib.Dec.{ltb, eqb}
+use mathlib.Core.Bool.{Bool, true, false, _&&_}
+use mathlib.Core.List.{List, [], _∷_}
+use lib.Dec.{ltb}
+use Rattle.codec.specs.Technology.{Technology, technologies, setLimit, names}
 use Rattle.codec.specs.Layout.{Layout, Values, allowed, Typed, cleared, zeroed}
-use Rattle.codec.specs.Blocks.{capabilityBlock, configurationBlock}
-use Rattle.codec.specs.Technology.{bit}
-use Rattle.codec.specs.Records.{Column, capabilities, configurations, ofCapability, ofConfiguration}
-use Rattle.codec.specs.Message.{assigned}
+use Rattle.codec.specs.Blocks.{Column, columns, cell}
+use Rattle.codec.specs.Table.{assigned, setIn}
+use Rattle.codec.specs.Records.{StructOf, fields, columnIn, ofRecord}
 use Rattle.codec.specs.declared.records.Record.{Record}
 
 -- what the types of the code ensure of a record
 pub record TypedRecord (r : Record) : Type 0 where
   pub id : r .id < 256
   pub set : r .set < 65536
-  pub capability : (id : ℕ) → Typed (capabilityBlock id) (ofCapability (r .capability) id)
-  pub configuration : (id : ℕ) → Typed (configurationBlock id) (ofConfiguration (r .configuration) id)
+  pub cells : (k : Column) (t : Technology) → Typed (cell k t) (ofRecord r k t)
 
 -- the fields of a technology that is present, or absent
 abbrev pub validFields : (L : Layout) → Bool → Values L → Bool
 validFields L true v = allowed L v && cleared L v
 validFields L false v = zeroed L v
 
--- the technologies whose blocks a record has in this message's column: none in the other's
-abbrev pub setIn : ℕ → Record → ℕ
-setIn message r = cond (eqb (r .id) message) (r .set) 0
+abbrev pub every : {A : Type 0} → List A → (A → Bool) → Bool
+every [] f = true
+every (x ∷ l) f = f x && every l f
 
-unfoldable pub validColumn : {A : Type 0} → Column A → ℕ → A → Bool
-validColumn C set a =
-    validFields (C .layouts 0) (bit set 0) (C .fields a 0)
-    && (validFields (C .layouts 1) (bit set 1) (C .fields a 1)
-    && (validFields (C .layouts 2) (bit set 2) (C .fields a 2)
-    && validFields (C .layouts 3) (bit set 3) (C .fields a 3)))
+-- a column with the blocks of the technologies in a set
+unfoldable pub validColumn : (k : Column) → ℕ → StructOf k → Bool
+validColumn k set c = every technologies (λ t. validFields (cell k t) (names set t) (fields k c t))
 
 unfoldable pub valid : Record → Bool
 valid r =
     assigned (r .id)
-    && (ltb (r .set) 16
-    && (validColumn capabilities (setIn 1 r) (r .capability)
-    && validColumn configurations (setIn 2 r) (r .configuration)))
+    && (ltb (r .set) setLimit
+    && every columns (λ k. validColumn k (setIn (r .id) (r .set) k) (columnIn r k)))

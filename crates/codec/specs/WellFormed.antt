@@ -1,15 +1,15 @@
 -- Well-formed messages, with no order of checks and no refusal: how the octets lie, and what the record says.
-use Prim.Native.Nat.{ℕ, _≤_, _<_}
+use Prim.Native.Nat.{ℕ, zero, suc, _≤_, _<_}
 use mathlib.Core.Path.{_≡_}
 use mathlib.Core.Logic.{_⊎_}
-use mathlib.Core.Bool.{true, cond}
+use mathlib.Core.Bool.{true}
 use mathlib.Core.List.{List, [], _∷_, _++_, flatten}
-use lib.Dec.{eqb}
 use lib.ListN.{length, getD}
 use Rattle.codec.specs.Octets.{toLE}
 use Rattle.codec.specs.Layout.{Layout, allowed, value, need}
 use Rattle.codec.specs.Technology.{bit}
-use Rattle.codec.specs.Message.{messageLimit, assigned, blockCount, layoutsOf, recordOf}
+use Rattle.codec.specs.Table.{messageLimit, assigned, row, blockCount, layoutsOf}
+use Rattle.codec.specs.Message.{recordOf}
 use Rattle.codec.specs.declared.records.Record.{Record}
 
 -- A whole block of a set: its ID has a bit in the set, its size is the number of its octets, these are at least as many as
@@ -34,9 +34,10 @@ pub data Has (id : ℕ) : List (List ℕ) → Type 0 where
   this : {b : List ℕ} {blocks : List (List ℕ)} → getD b 0 0 ≡ id → Has id (b ∷ blocks)
   later : {b : List ℕ} {blocks : List (List ℕ)} → Has id blocks → Has id (b ∷ blocks)
 
--- a set, and in a Configuration the same set again
+-- the set, so many times
 abbrev pub sets : ℕ → ℕ → List ℕ
-sets id set = toLE 2 set ++ cond (eqb id 2) (toLE 2 set) []
+sets zero set = []
+sets (suc n) set = toLE 2 set ++ sets n set
 
 pub record WellFormed (m : List ℕ) (r : Record) : Type 0 where
   pub version : ℕ
@@ -45,14 +46,14 @@ pub record WellFormed (m : List ℕ) (r : Record) : Type 0 where
   pub blocks : List (List ℕ)
   pub rest : List ℕ
   -- how the octets lie
-  pub octets : m ≡ version ∷ id ∷ (sets id set ++ (flatten blocks ++ rest))
+  pub octets : m ≡ version ∷ id ∷ (sets (row id .times) set ++ (flatten blocks ++ rest))
   pub limit : length m ≤ messageLimit
   -- the head
-  pub assigned : assigned id ≡ true
+  pub known : assigned id ≡ true
   pub readable : (version ≡ 1) ⊎ ((1 < version) × (id < 2))
   -- the blocks, in any order
-  pub count : length blocks ≡ blockCount id set
-  pub whole : Each (Whole (layoutsOf id) set) blocks
+  pub count : length blocks ≡ blockCount (row id .blocks) set
+  pub whole : Each (Whole (layoutsOf (row id .blocks)) set) blocks
   pub once : Once blocks
   -- the end of the message
   pub ends : version ≡ 1 → rest ≡ []

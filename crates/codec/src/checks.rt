@@ -1,4 +1,10 @@
 // The order of checks: the number of a message's first fault, and the places of its blocks where there is none.
+use crate::message::CAPABILITY_REQUEST;
+use crate::message::CAPABILITY_RESPONSE;
+use crate::message::CONFIGURATION;
+use crate::message::CONFIGURATION_RESPONSE;
+use crate::message::STOP;
+use crate::message::STOP_RESPONSE;
 use crate::octets::u16_at;
 use crate::octets::wide;
 use crate::refusal::ENDS_EARLY;
@@ -9,13 +15,14 @@ use crate::refusal::TOO_LONG;
 use crate::refusal::WRONG_VERSION;
 use crate::walk::walk;
 ghost use mathlib.Core.Path.{_≡_};
-ghost use mathlib.Core.Bool.{true, false};
+ghost use mathlib.Core.Bool.{true};
 ghost use Prim.Native.Nat.{_≤_};
 ghost use lib.Count.{ones};
 ghost use lib.ListN.{length};
 ghost use Rattle.codec.specs.Refusal.{numberIn};
-ghost use Rattle.codec.specs.Message.{messageLimit, idOf, setOf, carriesBlocks, readable, endFault, blocksFrom, body, parse, blocksAt};
-ghost use Rattle.codec.specs.Places.{Judged};
+ghost use Rattle.codec.specs.Table.{messageLimit, readable, row};
+ghost use Rattle.codec.specs.Message.{idOf, setOf, endFault, blocksFrom, body, parse, blocksAt};
+ghost use Rattle.codec.specs.Places.{layoutsBy, setAlone, carriesBlocks, Judged};
 
 // A message has at most so many octets.
 pub const MESSAGE_LIMIT: usize = 256;
@@ -39,7 +46,7 @@ fn end_fault(m: &[u8], end: usize) -> u8
 
 // The first fault from the version on of a message that carries a set alone, 0 for none.
 fn set_fault(m: &[u8]) -> u8
-    requires { ⌜ (2 ≤ length (now m)) × (carriesBlocks (idOf (now m)) ≡ false) ⌝ }
+    requires { ⌜ (2 ≤ length (now m)) × (row (idOf (now m)) ≡ setAlone) ⌝ }
     ensures { λ f. ⌜ f ≡ numberIn (body (now (m .entry))) ⌝ }
 {
     if !readable(m[0], m[1]) {
@@ -54,7 +61,7 @@ fn set_fault(m: &[u8]) -> u8
 // The first fault from the blocks on; for none it is 0, and `found` has the places of the blocks.
 fn blocks_fault(m: &[u8], at: usize, found: &mut [u16; 5]) -> u8
     requires { ⌜ (4 ≤ length (now m)) × (length (now m) ≤ messageLimit) × (at ≤ length (now m)) × (length (now found) ≡ 5) ⌝ }
-    ensures { λ f. ⌜ Judged true (blocksFrom (now (m .entry)) (ones (setOf (now (m .entry)))) at) at (now (found .entry)) f (now (found .exit)) ⌝ }
+    ensures { λ f. ⌜ Judged true (blocksFrom (layoutsBy (idOf (now (m .entry)))) (now (m .entry)) (ones (setOf (now (m .entry)))) at) at (now (found .entry)) f (now (found .exit)) ⌝ }
 {
     let set = u16_at(m, 2);
     let view = m;
@@ -99,7 +106,7 @@ fn configuration_fault(m: &[u8], found: &mut [u16; 5]) -> u8
 // The first fault of a message; for none it is 0, and `found` has the places of the blocks of message 1 or 2.
 pub(crate) fn message_fault(m: &[u8], found: &mut [u16; 5]) -> u8
     requires { ⌜ length (now found) ≡ 5 ⌝ }
-    ensures { λ f. ⌜ Judged (carriesBlocks (idOf (now (m .entry)))) (parse (now (m .entry))) (blocksAt (idOf (now (m .entry)))) (now (found .entry)) f (now (found .exit)) ⌝ }
+    ensures { λ f. ⌜ Judged (carriesBlocks (row (idOf (now (m .entry))) .blocks)) (parse (now (m .entry))) (blocksAt (row (idOf (now (m .entry))) .times)) (now (found .entry)) f (now (found .exit)) ⌝ }
 {
     if MESSAGE_LIMIT < m.len() {
         return TOO_LONG;
@@ -108,9 +115,9 @@ pub(crate) fn message_fault(m: &[u8], found: &mut [u16; 5]) -> u8
         return ENDS_EARLY;
     }
     match m[1] {
-        0 | 3 | 6 | 7 => set_fault(m),
-        1 => response_fault(m, found),
-        2 => configuration_fault(m, found),
+        CAPABILITY_REQUEST | CONFIGURATION_RESPONSE | STOP | STOP_RESPONSE => set_fault(m),
+        CAPABILITY_RESPONSE => response_fault(m, found),
+        CONFIGURATION => configuration_fault(m, found),
         4..=5 | 8..=255 => RESERVED_ID,
     }
 }

@@ -1,21 +1,21 @@
 // CS, channel sounding: its two blocks.
 use crate::octets::address_at;
-use crate::octets::address_length;
 use crate::octets::all_zero;
 use crate::octets::inside;
 use crate::octets::put;
 use crate::octets::put_address;
 use crate::refusal::NOT_ALLOWED;
+use crate::technology::CS;
 ghost use mathlib.Core.Path.{_≡_};
 ghost use mathlib.Core.Bool.{cond};
-ghost use Prim.Native.Nat.{ℕ, _+_, _≤_};
+ghost use Prim.Native.Nat.{_+_, _≤_};
 ghost use lib.ListN.{length};
 ghost use Rattle.codec.specs.Refusal.{numberIn};
 ghost use Rattle.codec.specs.Layout.{value, fault};
 ghost use Rattle.codec.specs.Blocks.{csCapability, csConfiguration};
 ghost use Rattle.codec.specs.Records.{toCsCapability, toCsConfiguration, ofCsCapability, ofCsConfiguration};
 ghost use Rattle.codec.specs.Valid.{validFields};
-ghost use Rattle.codec.specs.Puts.{Put, Sized, blockIf};
+ghost use Rattle.codec.specs.Puts.{Put, blockIf};
 ghost use Rattle.codec.specs.Places.{Roomy};
 
 #[repr(C)]
@@ -81,14 +81,6 @@ pub(crate) fn valid_configuration(present: bool, v: CsConfiguration) -> bool
     (v.security_level == 0) & all_zero(&v.address)
 }
 
-// How many octets either block takes: both are an octet and an address.
-pub(crate) fn size_block(present: bool, address: [u8; 6]) -> usize
-    ensures { λ r. ⌜ ((x : ℕ) → Sized present csCapability 1 (x, (address, tt)) 9 r) ⌝ }
-{
-    let size = 3 + address_length(&address);
-    if present { size } else { 0 }
-}
-
 // Writes either block where the technology is present.
 pub(crate) fn put_block(
     present: bool,
@@ -103,7 +95,7 @@ pub(crate) fn put_block(
     if !present {
         return at;
     }
-    let size = put(out, at, 1);
+    let size = put(out, at, CS);
     let fields = put(out, size, 9);
     let next = put(out, fields, security);
     put_address(out, next, &address)

@@ -1,5 +1,7 @@
 // The blocks of a message one by one, for diagnosis.
 use crate::checks::message_fault;
+use crate::message::CAPABILITY_RESPONSE;
+use crate::message::CONFIGURATION;
 use crate::octets::u16_at;
 use crate::records::Block;
 use crate::walker::next_place;
@@ -55,8 +57,8 @@ pub fn block(message: &[u8], n: usize) -> Block
         return no_block();
     }
     match message[1] {
-        1 => nth_block(message, 4, u16::count_ones(u16_at(message, 2)), n),
-        2 => nth_block(message, 6, u16::count_ones(u16_at(message, 2)), n),
+        CAPABILITY_RESPONSE => nth_block(message, 4, u16::count_ones(u16_at(message, 2)), n),
+        CONFIGURATION => nth_block(message, 6, u16::count_ones(u16_at(message, 2)), n),
         _ => no_block(),
     }
 }

@@ -2,12 +2,12 @@
 use crate::octets::all_zero;
 use crate::octets::inside;
 use crate::octets::name_at;
-use crate::octets::name_length;
 use crate::octets::put;
 use crate::octets::put_name;
 use crate::octets::zero_from;
 use crate::refusal::BLOCK_TOO_SMALL;
 use crate::refusal::NOT_ALLOWED;
+use crate::technology::NAN;
 ghost use mathlib.Core.Path.{_≡_};
 ghost use mathlib.Core.Bool.{cond};
 ghost use Prim.Native.Nat.{_+_, _≤_};
@@ -17,7 +17,7 @@ ghost use Rattle.codec.specs.Layout.{value, fault};
 ghost use Rattle.codec.specs.Blocks.{nanCapability, nanConfiguration};
 ghost use Rattle.codec.specs.Records.{toNanCapability, toNanConfiguration, ofNanCapability, ofNanConfiguration};
 ghost use Rattle.codec.specs.Valid.{validFields};
-ghost use Rattle.codec.specs.Puts.{Put, Sized, blockIf};
+ghost use Rattle.codec.specs.Puts.{Put, blockIf};
 ghost use Rattle.codec.specs.Places.{Roomy};
 
 #[repr(C)]
@@ -105,13 +105,6 @@ pub(crate) fn valid_capability(present: bool, v: NanCapability) -> bool
     (v.features == 0) & ((v.periodic == 0) & ((v.bandwidth == 0) & (v.receive_chains == 0)))
 }
 
-// How many octets the block takes.
-pub(crate) fn size_capability(present: bool, v: NanCapability) -> usize
-    ensures { λ r. ⌜ Sized present nanCapability 2 (ofNanCapability v) 6 r ⌝ }
-{
-    if present { 6 } else { 0 }
-}
-
 // Writes the block where the technology is present.
 pub(crate) fn put_capability(present: bool, v: NanCapability, out: &mut [u8], at: usize) -> usize
     requires { ⌜ at + cond present 6 0 ≤ length (now out) ⌝ }
@@ -120,7 +113,7 @@ pub(crate) fn put_capability(present: bool, v: NanCapability, out: &mut [u8], at
     if !present {
         return at;
     }
-    let size = put(out, at, 2);
+    let size = put(out, at, NAN);
     let fields = put(out, size, 6);
     let periodic = put(out, fields, v.features);
     let bandwidth = put(out, periodic, v.periodic);
@@ -141,17 +134,6 @@ pub(crate) fn valid_configuration(present: bool, v: NanConfiguration) -> bool
     inside(0, 1, v.role) & (inside(0, 1, v.periodic) & zero_from(&v.name, n))
 }
 
-// How many octets the block takes.
-pub(crate) fn size_configuration(present: bool, v: NanConfiguration) -> usize
-    requires { ⌜ v .«name_length» ≤ 64 ⌝ }
-    ensures { λ r. ⌜ Sized present nanConfiguration 2 (ofNanConfiguration v) (5 + v .«name_length») r ⌝ }
-{
-    let name = v.name;
-    let n = v.name_length as usize;
-    let size = 5 + name_length(&name, n);
-    if present { size } else { 0 }
-}
-
 pub(crate) fn put_configuration(
     present: bool,
     v: NanConfiguration,
@@ -165,7 +147,7 @@ pub(crate) fn put_configuration(
         return at;
     }
     let n = v.name_length as usize;
-    let size = put(out, at, 2);
+    let size = put(out, at, NAN);
     let fields = put(out, size, 5 + v.name_length);
     let octets = put(out, fields, v.name_length);
     let role = put_name(out, octets, &v.name, n);

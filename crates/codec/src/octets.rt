@@ -144,46 +144,6 @@ pub(crate) fn zero_from(s: &[u8], from: usize) -> bool
     true
 }
 
-fn length_of(s: &[u8]) -> usize
-    ensures { λ r. ⌜ r ≡ length (now (s .entry)) ⌝ }
-{
-    s.len()
-}
-
-// The lengths of arrays, which a block's size is the sum of.
-pub(crate) fn pair_length(pair: &[u8; 2]) -> usize
-    ensures { λ r. ⌜ (r ≡ 2) × (length (now (pair .entry)) ≡ 2) ⌝ }
-{
-    length_of(pair)
-}
-
-pub(crate) fn address_length(address: &[u8; 6]) -> usize
-    ensures { λ r. ⌜ (r ≡ 6) × (length (now (address .entry)) ≡ 6) ⌝ }
-{
-    length_of(address)
-}
-
-fn first_length(s: &[u8], n: usize) -> usize
-    requires { ⌜ n ≤ length (now s) ⌝ }
-    ensures { λ r. ⌜ (r ≡ n) × (length (take n (now (s .entry))) ≡ n) ⌝ }
-{
-    length_of(&s[..n])
-}
-
-pub(crate) fn key_length(key: &[u8; 32], k: usize) -> usize
-    requires { ⌜ k ≤ 32 ⌝ }
-    ensures { λ r. ⌜ (r ≡ k) × (length (take k (now (key .entry))) ≡ k) ⌝ }
-{
-    first_length(key, k)
-}
-
-pub(crate) fn name_length(name: &[u8; 64], n: usize) -> usize
-    requires { ⌜ n ≤ 64 ⌝ }
-    ensures { λ r. ⌜ (r ≡ n) × (length (take n (now (name .entry))) ≡ n) ⌝ }
-{
-    first_length(name, n)
-}
-
 // One octet. Each of these returns the place after what it wrote.
 pub(crate) fn put(out: &mut [u8], at: usize, x: u8) -> usize
     requires { ⌜ at < length (now out) ⌝ }

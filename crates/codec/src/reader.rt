@@ -1,6 +1,8 @@
 // The reader: the record of a message that the order of checks does not refuse is made once, from the places of its blocks.
 use crate::checks::message_fault;
 use crate::cs;
+use crate::message::CAPABILITY_RESPONSE;
+use crate::message::CONFIGURATION;
 use crate::nan;
 use crate::octets::u16_at;
 use crate::records::Capability;
@@ -15,11 +17,12 @@ use crate::records::zero_configuration;
 use crate::rssi;
 use crate::uwb;
 ghost use mathlib.Core.Path.{_≡_};
-ghost use mathlib.Core.Bool.{true};
 ghost use Prim.Native.Nat.{_+_, _≤_};
 ghost use lib.ListN.{length, getD, replicate};
-ghost use Rattle.codec.specs.Message.{idOf, carriesBlocks, layoutsOf, reading, Reads};
-ghost use Rattle.codec.specs.Records.{capabilities, configurations, accepted, answer, forTag};
+ghost use Rattle.codec.specs.Blocks.{Column, capabilities, configurations};
+ghost use Rattle.codec.specs.Table.{messageOf};
+ghost use Rattle.codec.specs.Message.{idOf, reading, Reads};
+ghost use Rattle.codec.specs.Records.{accepted, answer, forTag};
 ghost use Rattle.codec.specs.Places.{Placed, blockOrZeros, columnAt, recordAt};
 
 // The octets of the block at a place; zeros, which read as zero fields, for place 0.
@@ -37,7 +40,7 @@ fn block_or_zeros<'a>(m: &'a [u8], at: u16, zeros: &'a [u8]) -> &'a [u8]
 
 // What the blocks of message 1 at these places say.
 fn capability_at(m: &[u8], found: &[u16; 5]) -> Capability
-    requires { ⌜ Placed (capabilities .layouts) (now m) (now found) ⌝ }
+    requires { ⌜ Placed capabilities (now m) (now found) ⌝ }
     ensures { λ r. ⌜ r ≡ columnAt capabilities (now (m .entry)) (now (found .entry)) ⌝ }
 {
     let zeros = [0u8; 20];
@@ -50,7 +53,7 @@ fn capability_at(m: &[u8], found: &[u16; 5]) -> Capability
 
 // What the blocks of message 2 at these places say.
 fn configuration_at(m: &[u8], found: &[u16; 5]) -> Configuration
-    requires { ⌜ Placed (configurations .layouts) (now m) (now found) ⌝ }
+    requires { ⌜ Placed configurations (now m) (now found) ⌝ }
     ensures { λ r. ⌜ r ≡ columnAt configurations (now (m .entry)) (now (found .entry)) ⌝ }
 {
     let zeros = [0u8; 20];
@@ -63,12 +66,12 @@ fn configuration_at(m: &[u8], found: &[u16; 5]) -> Configuration
 
 // The record of a message that is not refused.
 fn record_at(m: &[u8], found: &[u16; 5]) -> Record
-    requires { ⌜ (4 ≤ length (now m)) × (carriesBlocks (idOf (now m)) ≡ true → Placed (layoutsOf (idOf (now m))) (now m) (now found)) ⌝ }
+    requires { ⌜ (4 ≤ length (now m)) × ((k : Column) → idOf (now m) ≡ messageOf k → Placed k (now m) (now found)) ⌝ }
     ensures { λ r. ⌜ r ≡ recordAt (now (m .entry)) (now (found .entry)) ⌝ }
 {
     let id = m[1];
     let set = u16_at(m, 2) % 16;
-    if id == 1 {
+    if id == CAPABILITY_RESPONSE {
         let capability = capability_at(m, found);
         let configuration = zero_configuration();
         return Record {
@@ -79,7 +82,7 @@ fn record_at(m: &[u8], found: &[u16; 5]) -> Record
         };
     }
     let capability = zero_capability();
-    if id == 2 {
+    if id == CONFIGURATION {
         let configuration = configuration_at(m, found);
         return Record {
             id,
@@ -112,12 +115,12 @@ pub fn read(message: &[u8]) -> Reading
 
 // What a tag reads of a message that is not refused.
 fn for_tag_at(m: &[u8], found: &[u16; 5]) -> TagReading
-    requires { ⌜ (4 ≤ length (now m)) × (carriesBlocks (idOf (now m)) ≡ true → Placed (layoutsOf (idOf (now m))) (now m) (now found)) ⌝ }
+    requires { ⌜ (4 ≤ length (now m)) × ((k : Column) → idOf (now m) ≡ messageOf k → Placed k (now m) (now found)) ⌝ }
     ensures { λ r. ⌜ r ≡ forTag (accepted (recordAt (now (m .entry)) (now (found .entry)))) ⌝ }
 {
     let id = m[1];
     let named = u16_at(m, 2) % 16;
-    if id == 2 {
+    if id == CONFIGURATION {
         let settings = configuration_at(m, found);
         return TagReading {
             refusal: 0,

@@ -1,6 +1,10 @@
 // Records: what a message says, and the reader's answer.
 use crate::cs::CsCapability;
 use crate::cs::CsConfiguration;
+use crate::message::CAPABILITY_REQUEST;
+use crate::message::CONFIGURATION_RESPONSE;
+use crate::message::STOP;
+use crate::message::STOP_RESPONSE;
 use crate::nan::NanCapability;
 use crate::nan::NanConfiguration;
 use crate::rssi::Rssi;
@@ -13,7 +17,8 @@ use crate::uwb::PreambleIndexes;
 use crate::uwb::UwbCapability;
 use crate::uwb::UwbConfiguration;
 ghost use mathlib.Core.Path.{_≡_};
-ghost use Rattle.codec.specs.Records.{capabilities, configurations, blank, messageId, refused, forTag};
+ghost use Rattle.codec.specs.Blocks.{capabilities, configurations};
+ghost use Rattle.codec.specs.Records.{blank, messageId, refused, forTag};
 
 // What the blocks of message 1 say. An absent technology's fields are zero.
 #[repr(C)]
@@ -85,10 +90,10 @@ pub(crate) fn message_id(message: SetMessage) -> u8
     ensures { λ r. ⌜ r ≡ messageId message ⌝ }
 {
     match message {
-        SetMessage::Request => 0,
-        SetMessage::ConfigurationResponse => 3,
-        SetMessage::Stop => 6,
-        SetMessage::StopResponse => 7,
+        SetMessage::Request => CAPABILITY_REQUEST,
+        SetMessage::ConfigurationResponse => CONFIGURATION_RESPONSE,
+        SetMessage::Stop => STOP,
+        SetMessage::StopResponse => STOP_RESPONSE,
     }
 }
 

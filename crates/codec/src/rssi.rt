@@ -1,9 +1,9 @@
 // RSSI: its block, the same in both messages.
 use crate::octets::address_at;
-use crate::octets::address_length;
 use crate::octets::all_zero;
 use crate::octets::put;
 use crate::octets::put_address;
+use crate::technology::RSSI;
 ghost use mathlib.Core.Path.{_≡_};
 ghost use mathlib.Core.Bool.{cond};
 ghost use Prim.Native.Nat.{_+_, _≤_};
@@ -12,7 +12,7 @@ ghost use Rattle.codec.specs.Layout.{value};
 ghost use Rattle.codec.specs.Blocks.{rssiBlock};
 ghost use Rattle.codec.specs.Records.{toRssi, ofRssi};
 ghost use Rattle.codec.specs.Valid.{validFields};
-ghost use Rattle.codec.specs.Puts.{Put, Sized, blockIf};
+ghost use Rattle.codec.specs.Puts.{Put, blockIf};
 ghost use Rattle.codec.specs.Places.{Roomy};
 
 #[repr(C)]
@@ -38,15 +38,6 @@ pub(crate) fn valid_block(present: bool, v: Rssi) -> bool
     all_zero(&v.address)
 }
 
-// How many octets the block takes.
-pub(crate) fn size_block(present: bool, v: Rssi) -> usize
-    ensures { λ r. ⌜ Sized present rssiBlock 3 (ofRssi v) 8 r ⌝ }
-{
-    let address = v.address;
-    let size = 2 + address_length(&address);
-    if present { size } else { 0 }
-}
-
 // Writes the block where the technology is present.
 pub(crate) fn put_block(present: bool, v: Rssi, out: &mut [u8], at: usize) -> usize
     requires { ⌜ at + cond present 8 0 ≤ length (now out) ⌝ }
@@ -55,7 +46,7 @@ pub(crate) fn put_block(present: bool, v: Rssi, out: &mut [u8], at: usize) -> us
     if !present {
         return at;
     }
-    let size = put(out, at, 3);
+    let size = put(out, at, RSSI);
     let fields = put(out, size, 8);
     put_address(out, fields, &v.address)
 }

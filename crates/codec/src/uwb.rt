@@ -2,9 +2,7 @@
 use crate::octets::all_zero;
 use crate::octets::inside;
 use crate::octets::key_at;
-use crate::octets::key_length;
 use crate::octets::pair_at;
-use crate::octets::pair_length;
 use crate::octets::put;
 use crate::octets::put_key;
 use crate::octets::put_pair;
@@ -15,6 +13,7 @@ use crate::octets::u32_at;
 use crate::octets::zero_from;
 use crate::refusal::BLOCK_TOO_SMALL;
 use crate::refusal::NOT_ALLOWED;
+use crate::technology::UWB;
 ghost use mathlib.Core.Path.{_≡_};
 ghost use mathlib.Core.Bool.{cond};
 ghost use mathlib.Core.List.{[], _∷_};
@@ -26,7 +25,7 @@ ghost use Rattle.codec.specs.Layout.{member, inside, alphabetic, test, z
 ghost use Rattle.codec.specs.Blocks.{interval, uwbCapability, uwbConfiguration, uwbAfterKey};
 ghost use Rattle.codec.specs.Records.{toUwbCapability, toUwbConfiguration, ofUwbCapability, ofUwbConfiguration};
 ghost use Rattle.codec.specs.Valid.{validFields};
-ghost use Rattle.codec.specs.Puts.{Put, Sized, blockIf, setOctets, beforeKey, afterKey};
+ghost use Rattle.codec.specs.Puts.{Put, blockIf, setOctets, beforeKey, afterKey};
 ghost use Rattle.codec.specs.Places.{Roomy};
 
 #[repr(C)]
@@ -198,20 +197,11 @@ pub(crate) fn valid_capability(present: bool, v: UwbCapability) -> bool
     if present {
         return allowed_interval(v.shortest_interval) & inside(1, 2, v.shortest_slot);
     }
-    zero_pair(&v.address)
+    is_zero_pair(&v.address)
         & ((v.channels.0 == 0)
             & ((v.preamble_indexes.0 == 0)
                 & ((v.config_ids.0 == 0)
                     & ((v.shortest_interval == 0) & ((v.shortest_slot == 0) & (v.roles == 0))))))
-}
-
-// How many octets the block takes.
-pub(crate) fn size_capability(present: bool, v: UwbCapability) -> usize
-    ensures { λ r. ⌜ Sized present uwbCapability 0 (ofUwbCapability v) 20 r ⌝ }
-{
-    let address = v.address;
-    let size = 18 + pair_length(&address);
-    if present { size } else { 0 }
 }
 
 // Writes the sets of channels, preamble indexes and config IDs.
@@ -232,7 +222,7 @@ pub(crate) fn put_capability(present: bool, v: UwbCapability, out: &mut [u8], at
     if !present {
         return at;
     }
-    let size = put(out, at, 0);
+    let size = put(out, at, UWB);
     let fields = put(out, size, 20);
     let channels = put_pair(out, fields, &v.address);
     let interval = put_sets(v, out, channels);
@@ -241,61 +231,48 @@ pub(crate) fn put_capability(present: bool, v: UwbCapability, out: &mut [u8], at
     put(out, roles, v.roles)
 }
 
-fn zero_pair(pair: &[u8; 2]) -> bool
+fn is_zero_pair(pair: &[u8; 2]) -> bool
     ensures { λ r. ⌜ r ≡ allZero (now (pair .entry)) ⌝ }
 {
     all_zero(pair)
 }
 
-fn zero_key(key: &[u8; 32]) -> bool
+fn is_zero_key(key: &[u8; 32]) -> bool
     ensures { λ r. ⌜ r ≡ allZero (now (key .entry)) ⌝ }
 {
     all_zero(key)
 }
 
-fn zero_key_from(key: &[u8; 32], from: usize) -> bool
+fn is_zero_key_from(key: &[u8; 32], from: usize) -> bool
     requires { ⌜ from ≤ 32 ⌝ }
     ensures { λ r. ⌜ r ≡ allZero (drop from (now (key .entry))) ⌝ }
 {
     zero_from(key, from)
 }
 
-fn zero_configuration(v: UwbConfiguration) -> bool
+fn is_zero_configuration(v: UwbConfiguration) -> bool
     ensures { λ r. ⌜ r ≡ zeroed uwbConfiguration (ofUwbConfiguration v) ⌝ }
 {
     let ids = (v.session_id == 0)
         & ((v.config_id.0 == 0) & ((v.channel.0 == 0) & (v.preamble_index.0 == 0)));
     let timing = (v.interval == 0) & ((v.slot == 0) & (v.key_length == 0));
-    let last = zero_pair(&v.country) & ((v.role == 0) & (v.mode == 0));
-    zero_pair(&v.address) & (ids & (timing & (zero_key(&v.key) & last)))
+    let last = is_zero_pair(&v.country) & ((v.role == 0) & (v.mode == 0));
+    is_zero_pair(&v.address) & (ids & (timing & (is_zero_key(&v.key) & last)))
 }
 
 pub(crate) fn valid_configuration(present: bool, v: UwbConfiguration) -> bool
     ensures { λ r. ⌜ r ≡ validFields uwbConfiguration present (ofUwbConfiguration v) ⌝ }
 {
     if !present {
-        return zero_configuration(v);
+        return is_zero_configuration(v);
     }
     if !allowed_key_length(v.key_length) {
         return false;
     }
     let country = v.country;
     let k = v.key_length as usize;
-    let last = inside(1, 2, v.role) & (inside(1, 2, v.mode) & zero_key_from(&v.key, k));
+    let last = inside(1, 2, v.role) & (inside(1, 2, v.mode) & is_zero_key_from(&v.key, k));
     allowed_interval(v.interval) & (inside(1, 2, v.slot) & (letters(country) & last))
-}
-
-pub(crate) fn size_configuration(present: bool, v: UwbConfiguration) -> usize
-    requires { ⌜ v .«key_length» ≤ 32 ⌝ }
-    ensures { λ r. ⌜ Sized present uwbConfiguration 0 (ofUwbConfiguration v) (19 + v .«key_length») r ⌝ }
-{
-    let address = v.address;
-    let key = v.key;
-    let country = v.country;
-    let k = v.key_length as usize;
-    let fixed = 15 + pair_length(&address) + pair_length(&country);
-    let size = fixed + key_length(&key, k);
-    if present { size } else { 0 }
 }
 
 // Writes the fields after the address and before the key.
@@ -334,7 +311,7 @@ pub(crate) fn put_configuration(
         return at;
     }
     let k = v.key_length as usize;
-    let size = put(out, at, 0);
+    let size = put(out, at, UWB);
     let fields = put(out, size, 19 + v.key_length);
     let session_id = put_pair(out, fields, &v.address);
     let key_length = put_before_key(v, out, session_id);

@@ -12,8 +12,9 @@ ghost use mathlib.Core.Bool.{Bool};
 ghost use Prim.Native.Nat.{ℕ, _+_, _≤_};
 ghost use lib.ListN.{length, getD};
 ghost use Rattle.codec.specs.Refusal.{numberIn};
-ghost use Rattle.codec.specs.Message.{messageLimit, walk};
-ghost use Rattle.codec.specs.Places.{sizeFault, fieldsFault, awaitedFault, Awaits, note, Finds};
+ghost use Rattle.codec.specs.Table.{messageLimit};
+ghost use Rattle.codec.specs.Message.{idOf, walk};
+ghost use Rattle.codec.specs.Places.{layoutsBy, sizeFault, fieldsFault, awaitedFault, Awaits, note, Finds};
 
 // The first fault in the size of a block, with so many octets left in the message, 0 for none.
 fn size_fault(size: u8, least: u8, left: usize) -> u8
@@ -31,7 +32,7 @@ fn size_fault(size: u8, least: u8, left: usize) -> u8
 // The first fault in the size and the fields of the block at a place.
 fn fields_fault(m: &[u8], at: usize, id: u8) -> u8
     requires { ⌜ (4 ≤ length (now m)) × (at + 2 ≤ length (now m)) × (id ≡ getD (now m) at 0) ⌝ }
-    ensures { λ f. ⌜ f ≡ numberIn (fieldsFault (now (m .entry)) at) ⌝ }
+    ensures { λ f. ⌜ f ≡ numberIn (fieldsFault (layoutsBy (idOf (now (m .entry)))) (now (m .entry)) at) ⌝ }
 {
     let size = m[at + 1];
     let fault = size_fault(size, least_size(m[1], id), m.len() - at);
@@ -46,7 +47,7 @@ fn fields_fault(m: &[u8], at: usize, id: u8) -> u8
 // an unknown technology is passed over by its size.
 fn block_fault(m: &[u8], at: usize, awaited: u16) -> u8
     requires { ⌜ (4 ≤ length (now m)) × (at ≤ length (now m)) ⌝ }
-    ensures { λ f. ⌜ f ≡ numberIn (awaitedFault (now (m .entry)) awaited at) ⌝ }
+    ensures { λ f. ⌜ f ≡ numberIn (awaitedFault (layoutsBy (idOf (now (m .entry)))) (now (m .entry)) awaited at) ⌝ }
 {
     if m.len() - at < 2 {
         return ENDS_EARLY;
@@ -77,7 +78,7 @@ fn note(id: u8, at: u16, found: &mut [u16; 5])
 // a loop of the recursion.
 pub(crate) fn walk(m: &&[u8], at: usize, left: u32, awaited: u16, found: &mut [u16; 5]) -> u8
     requires { ⌜ (4 ≤ length (now (now m))) × (length (now (now m)) ≤ messageLimit) × (at ≤ length (now (now m))) × (length (now found) ≡ 5) ⌝ }
-    ensures { λ f. ⌜ ((came : ℕ → Bool) → Awaits (now (now (m .entry))) came awaited → Finds (walk (now (now (m .entry))) left came at) at (now (found .entry)) f (now (found .exit))) × (length (now (found .exit)) ≡ 5) ⌝ }
+    ensures { λ f. ⌜ ((set : ℕ) (came : ℕ → Bool) → Awaits set came awaited → Finds (walk (layoutsBy (idOf (now (now (m .entry))))) set (now (now (m .entry))) left came at) at (now (found .entry)) f (now (found .exit))) × (length (now (found .exit)) ≡ 5) ⌝ }
 {
     if left == 0 {
         found[4] = at as u16;

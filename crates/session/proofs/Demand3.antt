@@ -4,13 +4,13 @@ use mathlib.Core.Path.{_≡_, refl, sym, ap, subst, _∙_}
 use mathlib.Core.List.{List, map}
 use mathlib.Core.Bool.{true, _&&_}
 use lib.Dec.{eqb, ltb}
+use borrow.Author.Tests.{eqb-true}
 use Rattle.codec.specs.Refusal.{notValid}
-use Rattle.codec.specs.Records.{capabilities, configurations}
-use Rattle.codec.specs.Message.{assigned}
-use Rattle.codec.specs.Valid.{setIn, validColumn, valid}
+use Rattle.codec.specs.Records.{response}
+use Rattle.codec.specs.Valid.{valid}
 use Rattle.codec.specs.declared.records.Record.{Record}
 use Rattle.codec.proofs.Outcomes.{by-bool, and-true, no-zero}
-use Rattle.codec.proofs.ValidCases.{response-valid}
+use Rattle.codec.proofs.ValidCases.{response-of}
 use Rattle.session.specs.declared.state.Profile.{Profile}
 use Rattle.session.specs.declared.state.Session.{Session}
 use Rattle.session.specs.declared.state.Started.{Started}
@@ -52,13 +52,12 @@ module _ (p : Profile) (v : validProfile p ≡ true) (events : List Event) (e : 
 -- ---- from an accepted start
 
 profile-valid : (r : Record) (n : ℕ) → fits r n ≡ true → validProfile (asProfile r n) ≡ true
-unfolding validProfile valid
+unfolding validProfile
 profile-valid r n h =
     let a = and-true (eqb (r .id) 1 && valid r) (ltb n 3) h in
     let b = and-true (eqb (r .id) 1) (valid r) (a .0) in
-    let c = rw (b .0) at (and-true (assigned (r .id)) (ltb (r .set) 16 && (validColumn capabilities (setIn 1 r) (r .capability) && validColumn configurations (setIn 2 r) (r .configuration))) (b .1) .1) in
-    let d = and-true (ltb (r .set) 16) _ c in
-    rw (response-valid (r .set) (r .capability), d .0, and-true (validColumn capabilities (r .set) (r .capability)) _ (d .1) .0, a .1)
+    let c = and-true (valid (response (r .set) (r .capability))) _ (sym (response-of r (eqb-true (r .id) 1 (b .0))) ∙ b .1) in
+    rw (c .0, a .1)
 
 pub demand-3 : Demand3
 demand-3 r n x h z events e ran =

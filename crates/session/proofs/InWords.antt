@@ -12,10 +12,10 @@ use Rattle.codec.specs.Refusal.{Checked}
 use Rattle.codec.specs.WellFormed.{Has}
 use Rattle.codec.specs.NormalForm.{blocksOf}
 use Rattle.codec.specs.declared.records.Record.{Record}
-use Rattle.codec.proofs.Columns.{response-has}
+use Rattle.codec.proofs.Risings.{response-has}
 use Rattle.codec.proofs.Outcomes.{by-bool, and-true}
 use Rattle.session.specs.declared.state.Profile.{Profile}
-use Rattle.codec.specs.Technology.{Technology, uwb, cs, nan, rssi, technologyId, naming, names}
+use Rattle.codec.specs.Technology.{Technology, technologyId, naming, names}
 use Rattle.codec.specs.Records.{Settings, settingsIn, capabilityIn, only}
 use Rattle.session.specs.Within.{ranges, bars, within}
 use Rattle.session.specs.Rules.{Call, request, configuration, stop, Served, after, shows, capabilityReply, sets, setBy, endedBy}
@@ -57,17 +57,11 @@ flagged false = none
 moved : (l : Ledger) {o q : Checked (Served Ledger)} → o ≡ q → after l o ≡ after l q
 moved l e = ap (λ (o : Checked (Served Ledger)). after l o) e
 
-below-4 : (t : Technology) → technologyId t < 4
-below-4 uwb = omega arith
-below-4 cs = omega arith
-below-4 nan = omega arith
-below-4 rssi = omega arith
-
 -- a reply holds a technology's block exactly if the call names it and the profile has it
 pub reply-holds : (p : Profile) (wanted : Technology → Bool) (t : Technology) → Has (technologyId t) (blocksOf (capabilityReply p wanted)) ↔ (shows p wanted t ≡ true)
 reply-holds p wanted t =
     let f = shows p wanted in
-    let q = response-has (naming f) (only (naming f) (p .capability)) (technologyId t) (below-4 t) in
+    let q = response-has (naming f) (only (naming f) (p .capability)) t in
     (λ h. sym (names-naming f t) ∙ q .0 h, λ e. q .1 (names-naming f t ∙ e))
 
 module _ (p : Profile) where

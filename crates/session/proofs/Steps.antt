@@ -9,8 +9,8 @@ use lib.ListN.{length}
 use borrow.Author.Tests.{lt-ltb, le-leb, ne-eqb, eqb-true}
 use Rattle.codec.specs.Layout.{Layout, Values}
 use Rattle.codec.specs.Refusal.{Checked, refuse, accept, demand, andThen, notValid}
-use Rattle.codec.specs.Blocks.{uwbCapability, csCapability, nanCapability}
-use Rattle.codec.specs.Records.{capabilities, configurations, blank, response, only, setRecord, accepted, answer, forTag, ofUwbCapability, ofCsCapability, ofNanCapability}
+use Rattle.codec.specs.Blocks.{capabilities, configurations, cell}
+use Rattle.codec.specs.Records.{blank, response, only, setRecord, accepted, answer, forTag, fields}
 use Rattle.codec.specs.Message.{idOf, setOf, parse, recordOf, reading}
 use Rattle.codec.specs.Valid.{validFields, validColumn, valid}
 use Rattle.codec.specs.Writing.{writing, Writes}
@@ -20,12 +20,13 @@ use Rattle.codec.specs.declared.records.TagReading.{TagReading}
 use Rattle.codec.specs.declared.records.SetMessage.{SetMessage}
 use Rattle.codec.specs.declared.records.Written.{Written}
 use Rattle.codec.proofs.Outcomes.{by-bool, and-true, no-zero}
-use Rattle.codec.proofs.ValidCases.{response-valid, only-valid, set-valid, response-of}
+use Rattle.codec.proofs.Every.{a-technology, every-at, every-all}
+use Rattle.codec.proofs.ValidCases.{response-valid, usedFields, only-valid, set-valid, response-of}
 use Rattle.session.specs.declared.state.Profile.{Profile}
 use Rattle.session.specs.declared.state.Session.{Session}
 use Rattle.session.specs.declared.state.Answer.{Answer}
 use Rattle.session.specs.declared.state.Step.{Step}
-use Rattle.codec.specs.Technology.{Technology, technologyId, uwb, cs, nan, rssi, names, naming, bit, ofBits, inBoth}
+use Rattle.codec.specs.Technology.{technologies, setLimit, Technology, technologyId, uwb, cs, nan, rssi, names, naming, bit, ofBits, inBoth}
 use Rattle.session.specs.Rules.{validProfile, Call, message, advertisement, Kind, request, configuration, stop, other, kindOf, octetsOf, replied, shows, capabilityReply, Served, conclude, giveOut, configure, setBy, endedBy, halt, serve, call, after, answerTo}
 use Rattle.session.specs.Session.{yes, rangingIn, sessionKeeps, sessionCall, Gives, asProfile, profileOf}
 use Rattle.session.specs.Replies.{Delivers, settle, Answers}
@@ -68,16 +69,12 @@ module _ (p : Profile) (wanted : Technology → Bool) (v : validProfile p ≡ tr
       let f = shows p wanted in
       let k = p .capability in
       let w = rw (response-valid (p .set) k) at (and-true (valid (response (p .set) k)) (ltb (p .replies) 3) v .0) in
-      let u = and-true (validFields uwbCapability (bit (p .set) 0) (ofUwbCapability (k .uwb))) _ (and-true (ltb (p .set) 16) (validColumn capabilities (p .set) k) w .1) in
-      let c = and-true (validFields csCapability (bit (p .set) 1) (ofCsCapability (k .cs))) _ (u .1) in
-      let n = and-true (validFields nanCapability (bit (p .set) 2) (ofNanCapability (k .nan))) _ (c .1) in
+      let c = and-true (ltb (p .set) setLimit) (validColumn capabilities (p .set) k) w .1 in
       rw (
         only-valid (naming f) k,
-        lt-ltb (naming f) 16 (naming-below f),
-        names-naming f uwb,
-        names-naming f nan,
-        chosen uwbCapability (ofUwbCapability (k .uwb)) (f uwb) _ (has uwb) (u .0),
-        chosen nanCapability (ofNanCapability (k .nan)) (f nan) _ (has nan) (n .0),
+        lt-ltb (naming f) setLimit (naming-below f),
+        every-all (usedFields (naming f) k) technologies λ t. rw (names-naming f t)
+            (chosen (cell capabilities t) (fields capabilities k t) (f t) (names (p .set) t) (has t) (every-at (λ t. validFields (cell capabilities t) (names (p .set) t) (fields capabilities k t)) t c (a-technology t))),
       )
 
 -- the blocks that the code chooses, by the bits of two sets

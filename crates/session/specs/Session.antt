@@ -20,7 +20,8 @@ use Rattle.session.specs.declared.state.Answer.{Answer}
 use Rattle.session.specs.declared.state.Step.{Step}
 use Rattle.session.specs.declared.state.Started.{Started}
 use Rattle.codec.specs.Technology.{Technology, uwb, cs, nan, rssi}
-use Rattle.codec.specs.Records.{Settings, capabilities, configurations, blank}
+use Rattle.codec.specs.Blocks.{capabilities, configurations}
+use Rattle.codec.specs.Records.{Settings, blank}
 use Rattle.session.specs.Rules.{Call, lent, validProfile, Served, Keeps, call, after, answerTo, bufferAfter}
 
 -- a flag is a number: 0 no, anything else yes

@@ -34,7 +34,7 @@ pub fn start(profile: Record, replies: u8) -> Started
     ensures { λ r. ⌜ r ≡ started (profileOf profile replies) ⌝ }
 {
     let response = (profile.id == 1) & codec::valid_response(profile.set, profile.capability);
-    if !(response & codec::no_configuration(profile.configuration) & (replies < 3)) {
+    if !(response & codec::is_zero_configuration(profile.configuration) & (replies < 3)) {
         return Started {
             session: fresh(Profile {
                 set: 0,
@@ -91,7 +91,7 @@ pub fn message(s: Session, octets: &[u8], out: &mut [u8]) -> Step
         answer = match id {
             0 => {
                 let blocks = common(heard.set, session.profile.set);
-                let w = codec::write_response(blocks, session.profile.capability, out);
+                let w = codec::write_capability_response(blocks, session.profile.capability, out);
                 session.mark = mark_given(blocks, w, session.mark);
                 answered(w, 0, 0)
             }
@@ -130,7 +130,7 @@ pub fn advertise(s: Session, out: &mut [u8]) -> Step
     let mut answer = refusal(NOT_VALID);
     if valid_profile(session.profile) {
         let blocks = common(15, session.profile.set);
-        let w = codec::write_response(blocks, session.profile.capability, out);
+        let w = codec::write_capability_response(blocks, session.profile.capability, out);
         session.mark = mark_given(blocks, w, session.mark);
         answer = answered(w, 0, 0);
     }

@@ -1,7 +1,12 @@
-use Rattle.codec.proofs.MessageCases.{judged-refused, judged-as, body-unread, configuration-short, configuration-sets, configuration-blocks}
+use Rattle.codec.proofs.MessageCases.{judged-refused, judged-as, body-unread, body-short, body-sets, body-blocks}
+use Rattle.codec.specs.Table.{row}
+use Rattle.codec.specs.Message.{setOf, blocksFrom}
+use Rattle.codec.specs.Places.{layoutsBy}
+use lib.Count.{ones}
+use Prim.Native.Nat.{ℕ}
 use Rattle.codec.proofs.Laws.{failed, passed}
 use borrow.Author.Tests.{eq-eqb, ne-eqb}
-use mathlib.Core.Path.{sym, _∙_}
+use mathlib.Core.Path.{sym, ap, _∙_}
 use native.Mathlib.Omega.{arith}
 use borrow.Author.Needs.{needs}
 use Rattle.codec.proofs.checks.configuration_fault.Statement.{statement}
@@ -20,7 +25,7 @@ returns : tie.Need-returns
 returns c = judged-refused (body-unread _ (failed (c .before .readable .ensures) (c .if1 .taken))) (λ e. omega arith) (c .before .before .before .before .before .pre .3)
 
 returns-2 : tie.Need-returns-2
-returns-2 c = judged-refused (configuration-short _ (passed (c .before .before .readable .ensures) (c .before .if1 .left)) (c .before .before .before .before .before .before .pre .2) (c .if2 .taken)) (λ e. omega arith) (c .before .before .before .before .before .before .pre .3)
+returns-2 c = judged-refused (body-short _ (passed (c .before .before .readable .ensures) (c .before .if1 .left)) (row 2) (ap row (c .before .before .before .before .before .before .pre .2)) (c .if2 .taken)) (λ e. omega arith) (c .before .before .before .before .before .before .pre .3)
 
 u16-at-requires : tie.Need-u16-at-requires
 u16-at-requires c κs = search needs
@@ -31,7 +36,7 @@ u16-at-requires-2 c κs = search needs
 returns-3 : tie.Need-returns-3
 returns-3 c =
     judged-refused
-    (configuration-sets _ (passed (c .before .before .before .before .before .readable .ensures) (c .before .before .before .before .if1 .left)) (c .before .before .before .before .before .before .before .before .before .pre .2) (c .before .before .before .if2 .left) (ne-eqb _ _ (λ e. c .if3 .taken (c .before .before .u16-at .ensures ∙ e ∙ sym (c .before .u16-at2 .ensures)))))
+    (body-sets _ (passed (c .before .before .before .before .before .readable .ensures) (c .before .before .before .before .if1 .left)) (row 2) (ap row (c .before .before .before .before .before .before .before .before .before .pre .2)) (c .before .before .before .if2 .left) (ne-eqb _ _ (λ e. c .if3 .taken (c .before .before .u16-at .ensures ∙ e ∙ sym (c .before .u16-at2 .ensures)))))
     (λ e. omega arith)
     (c .before .before .before .before .before .before .before .before .before .pre .3)
 
@@ -40,8 +45,9 @@ blocks-fault-requires c κs = search needs
 
 returns-4 : tie.Need-returns-4
 returns-4 c =
+    let m = c .before .before .before .before .before .before .before .before .before .before .before .args .m .now in
     judged-as (c .blocks-fault .ensures)
-    (configuration-blocks _ (passed (c .before .before .before .before .before .before .before .readable .ensures) (c .before .before .before .before .before .before .if1 .left)) (c .before .before .before .before .before .before .before .before .before .before .before .pre .2) (c .before .before .before .before .before .if2 .left) (eq-eqb _ _ (sym (c .before .before .before .before .u16-at .ensures) ∙ c .before .before .if3 .left ∙ c .before .before .before .u16-at2 .ensures)))
+    (ap (λ (id : ℕ). blocksFrom (layoutsBy id) m (ones (setOf m)) 6) (c .before .before .before .before .before .before .before .before .before .before .before .pre .2) ∙ body-blocks m (passed (c .before .before .before .before .before .before .before .readable .ensures) (c .before .before .before .before .before .before .if1 .left)) (row 2) (ap row (c .before .before .before .before .before .before .before .before .before .before .before .pre .2)) (c .before .before .before .before .before .if2 .left) (eq-eqb _ _ (sym (c .before .before .before .before .u16-at .ensures) ∙ c .before .before .if3 .left ∙ c .before .before .before .u16-at2 .ensures)))
 
 pub configuration-fault-spec : {M : Type 1} → statement M
 configuration-fault-spec =

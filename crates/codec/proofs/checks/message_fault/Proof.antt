@@ -2,10 +2,12 @@ use Rattle.codec.proofs.MessageCases.{judged-alone}
 use mathlib.Core.Path.{refl, ap}
 use Rattle.codec.proofs.MessageCases.{six-or-seven, not-assigned}
 use Rattle.codec.specs.Refusal.{numberIn}
-use Rattle.codec.specs.Message.{idOf, assigned, carriesBlocks}
+use Rattle.codec.specs.Table.{assigned, Row, row}
+use Rattle.codec.specs.Message.{idOf}
+use Rattle.codec.specs.Places.{setAlone, carriesBlocks}
 use Rattle.codec.specs.Layout.{member}
 use mathlib.Core.Logic.{inl, inr, ⊎-elim}
-use mathlib.Core.Bool.{true, false}
+use mathlib.Core.Bool.{true}
 use Rattle.codec.proofs.MessageCases.{judged-refused, judged-as, parse-long, parse-short, parse-reserved, parse-body}
 use mathlib.Core.Path.{_≡_, _∙_}
 use native.Mathlib.Omega.{arith}
@@ -16,7 +18,7 @@ use Rattle.codec.proofs.checks.message_fault.Tie as tie
 -- messages 0, 3, 6 and 7 carry a set alone
 alone : (c : tie.At-match-came) →
     let id = idOf (c .before .before .before .before .before .args .m .now) in
-    (carriesBlocks id ≡ false) × (assigned id ≡ true)
+    (row id ≡ setAlone) × (assigned id ≡ true)
 unfolding assigned member
 alone c = ⊎-elim (λ k. ⊎-elim (λ e. rw e (refl, refl)) (λ e. rw e (refl, refl)) (k .keys1)) (λ w. six-or-seven _ (w .1 .left) (w .2 .taken)) (c .match .came)
 
@@ -62,7 +64,7 @@ returns-6 c =
     (c .before .before .before .before .before .before .before .pre)
 
 returns-7 : tie.Need-returns-7
-returns-7 c = judged-alone (alone (c .before) .0) (c .set-fault .ensures ∙ ap numberIn (parse-body _ (c .before .before .before .before .if1 .left) (c .before .before .before .if2 .left) (alone (c .before) .1))) (c .before .before .before .before .before .before .pre)
+returns-7 c = judged-alone (ap (λ (R : Row). carriesBlocks (R .blocks)) (alone (c .before) .0)) (c .set-fault .ensures ∙ ap numberIn (parse-body _ (c .before .before .before .before .if1 .left) (c .before .before .before .if2 .left) (alone (c .before) .1))) (c .before .before .before .before .before .before .pre)
 
 pub message-fault-spec : {M : Type 1} → statement M
 message-fault-spec =

@@ -1,4 +1,4 @@
-use Rattle.codec.specs.Message.{readable}
+use Rattle.codec.specs.Table.{readable}
 use mathlib.Core.Path.{refl}
 use Rattle.codec.proofs.checks.readable.Statement.{statement}
 use Rattle.codec.proofs.checks.readable.Tie as tie

@@ -1,4 +1,5 @@
-use Rattle.codec.proofs.MessageCases.{body-unread, set-short, set-end}
+use Rattle.codec.proofs.MessageCases.{body-unread, body-short, set-end}
+use Rattle.codec.specs.Places.{setAlone}
 use Rattle.codec.proofs.Laws.{failed, passed}
 use mathlib.Core.Path.{_∙_}
 use borrow.Author.Needs.{needs}
@@ -18,7 +19,7 @@ returns : tie.Need-returns
 returns c = body-unread _ (failed (c .before .readable .ensures) (c .if1 .taken))
 
 returns-2 : tie.Need-returns-2
-returns-2 c = set-short _ (passed (c .before .before .readable .ensures) (c .before .if1 .left)) (c .before .before .before .before .before .before .pre .1) (c .if2 .taken)
+returns-2 c = body-short _ (passed (c .before .before .readable .ensures) (c .before .if1 .left)) setAlone (c .before .before .before .before .before .before .pre .1) (c .if2 .taken)
 
 end-fault-requires : tie.Need-end-fault-requires
 end-fault-requires c κs = search needs

@@ -3,7 +3,8 @@ use Prim.Native.Nat.{_≤_}
 use lib.ListN.{length}
 use borrow.Author.Tests.{ne-eqb}
 use mathlib.Core.Path.{_∙_}
-use Rattle.codec.specs.Message.{idOf, setOf, blocksAt, blockCount}
+use Rattle.codec.specs.Table.{row, blockCount}
+use Rattle.codec.specs.Message.{idOf, setOf, blocksAt}
 use Rattle.codec.specs.Listing.{Passes}
 use Rattle.codec.proofs.Listed.{lists-none, lists-refused, room, passes-all, lists-message}
 use borrow.Author.Needs.{needs}
@@ -12,10 +13,10 @@ use Rattle.codec.proofs.listing.block.Tie as tie
 
 -- a message that is not refused has its set
 four : (c : tie.Else1) → 4 ≤ length (c .before .before .before .before .args .message .now)
-four c = room _ _ (c .before .message-fault .ensures .number) (c .if1 .left) (λ i. omega (arith, c .before .before .before .shared-slice-known .given i))
+four c = room _ _ (c .before .message-fault .ensures .number) (c .if1 .left)
 
 -- and its blocks are whole
-blocks : (c : tie.Else1) → let m = c .before .before .before .before .args .message .now in Passes m (blockCount (idOf m) (setOf m)) (blocksAt (idOf m))
+blocks : (c : tie.Else1) → let m = c .before .before .before .before .args .message .now in Passes m (blockCount (row (idOf m) .blocks) (setOf m)) (blocksAt (row (idOf m) .times))
 blocks c = passes-all _ _ (c .before .message-fault .ensures .number) (c .if1 .left)
 
 message-fault-requires : tie.Need-message-fault-requires

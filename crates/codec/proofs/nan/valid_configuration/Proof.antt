@@ -1,6 +1,6 @@
 use native.Mathlib.Omega.{arith}
 use Rattle.codec.proofs.Laws.{failed, passed}
-use Rattle.codec.proofs.Layouts.{within-le}
+use Rattle.codec.proofs.Layouts.{bounded-le}
 use Rattle.codec.specs.Layout.{between}
 use mathlib.Core.Path.{refl}
 use mathlib.Core.Bool.{and-true, and-assoc}
@@ -31,7 +31,7 @@ inside-requires-3 : tie.Need-inside-requires-3
 inside-requires-3 c κs = search needs
 
 zero-from-requires : tie.Need-zero-from-requires
-zero-from-requires c κs = omega (arith, within-le (between 1 64) 64 _ refl (passed (c .before .before .before .before .before .before .inside .ensures) (c .before .before .before .before .before .if2 .left)))
+zero-from-requires c κs = omega (arith, bounded-le (between 1 64) 64 _ refl (passed (c .before .before .before .before .before .before .inside .ensures) (c .before .before .before .before .before .if2 .left)))
 
 returns-3 : tie.Need-returns-3
 returns-3 c = simp (not-false (c .before .before .before .before .before .before .before .before .before .args .present) (c .before .before .before .before .before .before .before .before .if1 .left), passed (c .before .before .before .before .before .before .before .inside .ensures) (c .before .before .before .before .before .before .if2 .left), c .before .before .before .before .before .inside2 .ensures, c .before .before .before .before .inside3 .ensures, c .zero-from .ensures, and-true, and-assoc)

@@ -1,4 +1,4 @@
-use lib.Dec.{lit<}
+use Rattle.codec.specs.Technology.{uwb, cs, nan, rssi}
 use mathlib.Core.Path.{refl}
 use borrow.Author.Needs.{needs}
 use Rattle.codec.proofs.reader.capability_at.Statement.{statement}
@@ -11,10 +11,10 @@ slice-aggregate-block-or-zeros : tie.Need-slice-aggregate-block-or-zeros
 slice-aggregate-block-or-zeros c = search needs
 
 block-or-zeros-requires : tie.Need-block-or-zeros-requires
-block-or-zeros-requires c κs = (refl, λ n. c .before .before .before .pre .whole 0 (lit< tt) n)
+block-or-zeros-requires c κs = (refl, λ n. c .before .before .before .pre .whole uwb n)
 
 capability-requires : tie.Need-capability-requires
-capability-requires c κs = rw (c .block-or-zeros .ensures) (c .before .before .before .before .pre .roomy 0 (lit< tt))
+capability-requires c κs = rw (c .block-or-zeros .ensures) (c .before .before .before .before .pre .roomy uwb)
 
 element-copy-out-block-or-zeros-2 : tie.Need-element-copy-out-block-or-zeros-2
 element-copy-out-block-or-zeros-2 c = search needs
@@ -23,10 +23,10 @@ slice-aggregate-block-or-zeros-2 : tie.Need-slice-aggregate-block-or-zeros-2
 slice-aggregate-block-or-zeros-2 c = search needs
 
 block-or-zeros-requires-2 : tie.Need-block-or-zeros-requires-2
-block-or-zeros-requires-2 c κs = (refl, λ n. c .before .before .before .before .before .before .before .pre .whole 1 (lit< tt) n)
+block-or-zeros-requires-2 c κs = (refl, λ n. c .before .before .before .before .before .before .before .pre .whole cs n)
 
 capability-requires-2 : tie.Need-capability-requires-2
-capability-requires-2 c κs = rw (c .block-or-zeros2 .ensures) (c .before .before .before .before .before .before .before .before .pre .roomy 1 (lit< tt))
+capability-requires-2 c κs = rw (c .block-or-zeros2 .ensures) (c .before .before .before .before .before .before .before .before .pre .roomy cs)
 
 element-copy-out-block-or-zeros-3 : tie.Need-element-copy-out-block-or-zeros-3
 element-copy-out-block-or-zeros-3 c = search needs
@@ -35,10 +35,10 @@ slice-aggregate-block-or-zeros-3 : tie.Need-slice-aggregate-block-or-zeros-3
 slice-aggregate-block-or-zeros-3 c = search needs
 
 block-or-zeros-requires-3 : tie.Need-block-or-zeros-requires-3
-block-or-zeros-requires-3 c κs = (refl, λ n. c .before .before .before .before .before .before .before .before .before .before .before .pre .whole 2 (lit< tt) n)
+block-or-zeros-requires-3 c κs = (refl, λ n. c .before .before .before .before .before .before .before .before .before .before .before .pre .whole nan n)
 
 capability-requires-3 : tie.Need-capability-requires-3
-capability-requires-3 c κs = rw (c .block-or-zeros3 .ensures) (c .before .before .before .before .before .before .before .before .before .before .before .before .pre .roomy 2 (lit< tt))
+capability-requires-3 c κs = rw (c .block-or-zeros3 .ensures) (c .before .before .before .before .before .before .before .before .before .before .before .before .pre .roomy nan)
 
 element-copy-out-block-or-zeros-4 : tie.Need-element-copy-out-block-or-zeros-4
 element-copy-out-block-or-zeros-4 c = search needs
@@ -47,10 +47,10 @@ slice-aggregate-block-or-zeros-4 : tie.Need-slice-aggregate-block-or-zeros-4
 slice-aggregate-block-or-zeros-4 c = search needs
 
 block-or-zeros-requires-4 : tie.Need-block-or-zeros-requires-4
-block-or-zeros-requires-4 c κs = (refl, λ n. c .before .before .before .before .before .before .before .before .before .before .before .before .before .before .before .pre .whole 3 (lit< tt) n)
+block-or-zeros-requires-4 c κs = (refl, λ n. c .before .before .before .before .before .before .before .before .before .before .before .before .before .before .before .pre .whole rssi n)
 
 block-requires : tie.Need-block-requires
-block-requires c κs = rw (c .block-or-zeros4 .ensures) (c .before .before .before .before .before .before .before .before .before .before .before .before .before .before .before .before .pre .roomy 3 (lit< tt))
+block-requires c κs = rw (c .block-or-zeros4 .ensures) (c .before .before .before .before .before .before .before .before .before .before .before .before .before .before .before .before .pre .roomy rssi)
 
 returns : tie.Need-returns
 returns c = rw (c .block .ensures, c .before .before .before .before .capability3 .ensures, c .before .before .before .before .before .before .before .before .capability2 .ensures, c .before .before .before .before .before .before .before .before .before .before .before .before .capability .ensures, c .before .before .before .before .before .before .before .before .before .before .before .before .before .block-or-zeros .ensures, c .before .before .before .before .before .before .before .before .before .block-or-zeros2 .ensures, c .before .before .before .before .before .block-or-zeros3 .ensures, c .before .block-or-zeros4 .ensures)

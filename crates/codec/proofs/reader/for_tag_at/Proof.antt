@@ -1,4 +1,5 @@
 use borrow.Author.Tests.{ne-eqb}
+use Rattle.codec.specs.Blocks.{configurations}
 use borrow.Author.Needs.{needs}
 use Rattle.codec.proofs.reader.for_tag_at.Statement.{statement}
 use Rattle.codec.proofs.reader.for_tag_at.Tie as tie
@@ -10,7 +11,7 @@ u16-at-requires : tie.Need-u16-at-requires
 u16-at-requires c κs = search needs
 
 configuration-at-requires : tie.Need-configuration-at-requires
-configuration-at-requires c κs = rw (c .if1 .taken) at (c .before .before .before .before .pre .1 (rw (c .if1 .taken)))
+configuration-at-requires c κs = c .before .before .before .before .pre .1 configurations (c .if1 .taken)
 
 returns : tie.Need-returns
 returns c = rw (c .configuration-at .ensures, c .before .before .u16-at .ensures, c .before .if1 .taken)

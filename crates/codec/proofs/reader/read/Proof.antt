@@ -11,7 +11,7 @@ octets : (c : tie.After-shared-slice-known) → Octets (c .before .args .message
 octets c i = omega (arith, c .shared-slice-known .given i)
 
 found : (c : tie.Else1) → Found (c .before .before .before .before .args .message .now) (c .before .message-fault .last .1 .0)
-found c = found-by (c .before .before .before .before .args .message .now) (octets (c .before .before .before)) (c .before .message-fault .ensures) (c .if1 .left)
+found c = found-by (c .before .before .before .before .args .message .now) (c .before .message-fault .ensures) (c .if1 .left)
 
 message-fault-requires : tie.Need-message-fault-requires
 message-fault-requires c κs = search needs

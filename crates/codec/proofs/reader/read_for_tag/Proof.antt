@@ -1,13 +1,12 @@
 use Rattle.codec.proofs.Found.{Found, found-by, reads-refused}
 use Rattle.codec.specs.Records.{forTag}
 use mathlib.Core.Path.{ap, _∙_}
-use native.Mathlib.Omega.{arith}
 use borrow.Author.Needs.{needs}
 use Rattle.codec.proofs.reader.read_for_tag.Statement.{statement}
 use Rattle.codec.proofs.reader.read_for_tag.Tie as tie
 
 found : (c : tie.Else1) → Found (c .before .before .before .before .args .message .now) (c .before .message-fault .last .1 .0)
-found c = found-by (c .before .before .before .before .args .message .now) (λ i. omega (arith, c .before .before .before .shared-slice-known .given i)) (c .before .message-fault .ensures) (c .if1 .left)
+found c = found-by (c .before .before .before .before .args .message .now) (c .before .message-fault .ensures) (c .if1 .left)
 
 message-fault-requires : tie.Need-message-fault-requires
 message-fault-requires c κs = search needs

@@ -1,4 +1,5 @@
-use borrow.Author.Tests.{eq-eqb, ne-eqb}
+use borrow.Author.Tests.{ne-eqb}
+use Rattle.codec.specs.Blocks.{capabilities, configurations}
 use borrow.Author.Needs.{needs}
 use Rattle.codec.proofs.reader.record_at.Statement.{statement}
 use Rattle.codec.proofs.reader.record_at.Tie as tie
@@ -10,7 +11,7 @@ u16-at-requires : tie.Need-u16-at-requires
 u16-at-requires c κs = search needs
 
 capability-at-requires : tie.Need-capability-at-requires
-capability-at-requires c κs = rw (eq-eqb _ 1 (c .if1 .taken)) at (c .before .before .before .before .pre .1 (rw (eq-eqb _ 1 (c .if1 .taken))))
+capability-at-requires c κs = c .before .before .before .before .pre .1 capabilities (c .if1 .taken)
 
 zero-configuration-requires : tie.Need-zero-configuration-requires
 zero-configuration-requires c κs = search needs
@@ -22,7 +23,7 @@ zero-capability-requires : tie.Need-zero-capability-requires
 zero-capability-requires c κs = search needs
 
 configuration-at-requires : tie.Need-configuration-at-requires
-configuration-at-requires c κs = rw (c .if2 .taken) at (c .before .before .before .before .before .before .pre .1 (rw (c .if2 .taken)))
+configuration-at-requires c κs = c .before .before .before .before .before .before .pre .1 configurations (c .if2 .taken)
 
 returns-2 : tie.Need-returns-2
 returns-2 c = rw (c .configuration-at .ensures, c .before .before .zero-capability .ensures, c .before .before .before .before .u16-at .ensures, c .before .if2 .taken)

@@ -12,13 +12,13 @@ inside-requires c κs = search needs
 returns : tie.Need-returns
 returns c = simp (c .before .before .if1 .taken, c .inside .ensures, c .before .allowed-interval .ensures, and-true)
 
-zero-pair-requires : tie.Need-zero-pair-requires
-zero-pair-requires c κs = search needs
+is-zero-pair-requires : tie.Need-is-zero-pair-requires
+is-zero-pair-requires c κs = search needs
 
 returns-2 : tie.Need-returns-2
-returns-2 c = simp (c .before .before .before .if1 .left, c .zero-pair .ensures, and-true)
+returns-2 c = simp (c .before .before .before .if1 .left, c .is-zero-pair .ensures, and-true)
 
 pub valid-capability-spec : {M : Type 1} → statement M
 valid-capability-spec =
     tie.close
-    (tie.spec allowed-interval-requires inside-requires returns zero-pair-requires returns-2)
+    (tie.spec allowed-interval-requires inside-requires returns is-zero-pair-requires returns-2)

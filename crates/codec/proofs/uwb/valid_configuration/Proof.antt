@@ -1,5 +1,5 @@
 use Rattle.codec.proofs.Laws.{failed, passed}
-use Rattle.codec.proofs.Layouts.{within-le}
+use Rattle.codec.proofs.Layouts.{bounded-le}
 use Rattle.codec.specs.Layout.{oneOf}
 use mathlib.Core.List.{[], _∷_}
 use mathlib.Core.Path.{refl}
@@ -10,11 +10,11 @@ use borrow.Author.Needs.{needs}
 use Rattle.codec.proofs.uwb.valid_configuration.Statement.{statement}
 use Rattle.codec.proofs.uwb.valid_configuration.Tie as tie
 
-zero-configuration-requires : tie.Need-zero-configuration-requires
-zero-configuration-requires c κs = search needs
+is-zero-configuration-requires : tie.Need-is-zero-configuration-requires
+is-zero-configuration-requires c κs = search needs
 
 returns : tie.Need-returns
-returns c = c .zero-configuration .ensures ∙ simp (not-true (c .before .before .args .present) (c .before .if1 .taken))
+returns c = c .is-zero-configuration .ensures ∙ simp (not-true (c .before .before .args .present) (c .before .if1 .taken))
 
 allowed-key-length-requires : tie.Need-allowed-key-length-requires
 allowed-key-length-requires c κs = search needs
@@ -31,8 +31,8 @@ inside-requires c κs = search needs
 inside-requires-2 : tie.Need-inside-requires-2
 inside-requires-2 c κs = search needs
 
-zero-key-from-requires : tie.Need-zero-key-from-requires
-zero-key-from-requires c κs = within-le (oneOf (8 ∷ 16 ∷ 32 ∷ [])) 32 _ refl (passed (c .before .before .before .before .before .before .allowed-key-length .ensures) (c .before .before .before .before .before .if2 .left))
+is-zero-key-from-requires : tie.Need-is-zero-key-from-requires
+is-zero-key-from-requires c κs = bounded-le (oneOf (8 ∷ 16 ∷ 32 ∷ [])) 32 _ refl (passed (c .before .before .before .before .before .before .allowed-key-length .ensures) (c .before .before .before .before .before .if2 .left))
 
 allowed-interval-requires : tie.Need-allowed-interval-requires
 allowed-interval-requires c κs = search needs
@@ -50,14 +50,14 @@ pub valid-configuration-spec : {M : Type 1} → statement M
 valid-configuration-spec =
     tie.close
     (tie.spec
-    zero-configuration-requires
+    is-zero-configuration-requires
     returns
     allowed-key-length-requires
     returns-2
     cast-k
     inside-requires
     inside-requires-2
-    zero-key-from-requires
+    is-zero-key-from-requires
     allowed-interval-requires
     inside-requires-3
     letters-requires

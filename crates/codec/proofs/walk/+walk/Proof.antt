@@ -6,7 +6,8 @@ use native.Mathlib.Omega.{arith}
 use Prim.Native.Nat.{ℕ, _<_}
 use borrow.Fn.Kinds.{In}
 use borrow.Fn.PlainCycle.{Measures, is, falls, and}
-use Rattle.codec.specs.Message.{also, blockFault}
+use Rattle.codec.specs.Message.{idOf, also, blockFault}
+use Rattle.codec.specs.Places.{layoutsBy}
 use Rattle.codec.specs.Refusal.{accept, numberIn}
 use Rattle.codec.proofs.walk.walk.Reads as walk
 use Rattle.codec.proofs.walk.walk.Kinds as walk-kinds
@@ -43,8 +44,8 @@ claims t = (
 
 module _ (t : ℕ) where
   -- what the head of the block that is passed says
-  here : (c : walk-lts.Else2 (claims t) (walk-at t) walk.Post) → let a = c .before .before .before .before .args in Headed (a .m .now .now) (a .awaited) (a .at)
-  here c = headed _ _ _ (c .before .block-fault .ensures) (c .if2 .left)
+  here : (c : walk-lts.Else2 (claims t) (walk-at t) walk.Post) → let a = c .before .before .before .before .args in Headed (layoutsBy (idOf (a .m .now .now))) (a .m .now .now) (a .awaited) (a .at)
+  here c = headed _ _ _ _ (c .before .block-fault .ensures) (c .if2 .left)
 
   cast-found : walk-lts.Need-cast-found (claims t) (walk-at t) walk.Post
   cast-found c = omega (arith, c .before .pre .1 .1, c .before .pre .1 .2)
@@ -53,7 +54,7 @@ module _ (t : ℕ) where
   element-write-found c = omega (arith, c .before .pre .1 .3)
 
   returns : walk-lts.Need-returns (claims t) (walk-at t) walk.Post
-  returns c = (λ came w. find-none _ _ _ _ _ (c .before .pre .1 .3) (c .if1 .taken), simp length-set (c .before .pre .1 .3))
+  returns c = (λ set came w. find-none _ _ _ _ _ _ _ (c .before .pre .1 .3) (c .if1 .taken), simp length-set (c .before .pre .1 .3))
 
   block-fault-requires : walk-lts.Need-block-fault-requires (claims t) (walk-at t) walk.Post
   block-fault-requires c κs = (c .before .before .pre .1 .0, c .before .before .pre .1 .2)
@@ -61,7 +62,7 @@ module _ (t : ℕ) where
   returns-2 : walk-lts.Need-returns-2 (claims t) (walk-at t) walk.Post
   returns-2 c =
       let s = c .before .before .before .before .args in
-      (λ came w. find-stop (s .m .now .now) came (s .at) _ _ _ _ (c .before .before .before .if1 .left) (c .before .block-fault .ensures ∙ ap numberIn (awaited-block _ _ _ came w)) (c .if2 .taken), c .before .before .before .before .pre .1 .3)
+      (λ set came w. find-stop (layoutsBy (idOf (s .m .now .now))) set (s .m .now .now) came (s .at) _ _ _ _ (c .before .before .before .if1 .left) (c .before .block-fault .ensures ∙ ap numberIn (awaited-block _ _ _ _ set came w)) (c .if2 .taken), c .before .before .before .before .pre .1 .3)
 
   index-1-id : walk-lts.Need-index-1-id (claims t) (walk-at t) walk.Post
   index-1-id c = omega (arith, here c .two)
@@ -88,11 +89,12 @@ module _ (t : ℕ) where
   returns-3 c =
       let s = c .before .before .before .before .before .before .before .before .before .before .before .before .args in
       let m = s .m .now .now in
+      let K = layoutsBy (idOf m) in
       let fault = c .before .before .before .before .before .before .before .before .before .block-fault .ensures in (
-        λ came w.
-            let a : blockFault m came (s .at) ≡ accept tt = sym (awaited-block m (s .awaited) (s .at) came w) ∙ accepted m (s .awaited) (s .at) fault (c .before .before .before .before .before .before .before .before .if2 .left) in
-            find-next m came (s .at) _ _ _ _ (c .before .before .before .before .before .before .before .before .before .before .before .if1 .left) (sound m came (s .at) a) a
-            (rw (c .before .before .before .before .before .next-place .ensures, c .before .before .before .note .ensures .0) at (c .walk .ensures .0 (also (getD m (s .at) 0) came) (awaits-next m came (getD m (s .at) 0) (s .awaited) _ w (c .before .before .without .ensures)))),
+        λ set came w.
+            let a : blockFault K set m came (s .at) ≡ accept tt = sym (awaited-block K m (s .awaited) (s .at) set came w) ∙ accepted K m (s .awaited) (s .at) fault (c .before .before .before .before .before .before .before .before .if2 .left) in
+            find-next K set m came (s .at) _ _ _ _ (c .before .before .before .before .before .before .before .before .before .before .before .if1 .left) (sound K set m came (s .at) a) a
+            (rw (c .before .before .before .before .before .next-place .ensures, c .before .before .before .note .ensures .0) at (c .walk .ensures .0 set (also (getD m (s .at) 0) came) (awaits-next set came (getD m (s .at) 0) (s .awaited) _ w (c .before .before .without .ensures)))),
         c .walk .ensures .1,
       )
 

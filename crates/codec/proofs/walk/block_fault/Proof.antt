@@ -1,10 +1,15 @@
 use Rattle.codec.proofs.Laws.{failed, passed}
 use Rattle.codec.proofs.WalkCases.{passed-over}
+use Rattle.codec.proofs.Cells.{no-layout}
+use Rattle.codec.specs.Message.{idOf}
+use Rattle.codec.specs.Places.{layoutsBy}
 use Rattle.codec.specs.Technology.{bit}
 use borrow.Author.Tests.{le-leb, lt-leb}
 use Prim.Native.Nat.{_+_, _≤_, _<_}
 use lib.ListN.{length, getD}
-use mathlib.Core.Bool.{true}
+use mathlib.Core.Bool.{true, cond}
+use lib.Dec.{eqb}
+use Rattle.codec.specs.Blocks.{capabilities, configurations}
 use mathlib.Core.Path.{_≡_, _∙_}
 use native.Mathlib.Omega.{arith}
 use borrow.Author.Needs.{needs}
@@ -53,7 +58,7 @@ size-fault-requires c κs = search needs
 returns-4 : tie.Need-returns-4
 returns-4 c =
     let s = c .before .before .before .before .before .before .before .before .args in
-    rw (le-leb _ _ (two (c .before .before .before .before .before .before)), comes (c .before .before .before)) (c .size-fault .ensures ∙ passed-over (s .m .now) (s .at) (c .before .before .if3 .left))
+    rw (le-leb _ _ (two (c .before .before .before .before .before .before)), comes (c .before .before .before)) (c .size-fault .ensures ∙ passed-over (layoutsBy (idOf (s .m .now))) (s .m .now) (s .at) (no-layout (cond (eqb (idOf (s .m .now)) 1) capabilities configurations) _ (c .before .before .if3 .left)))
 
 pub block-fault-spec : {M : Type 1} → statement M
 block-fault-spec =

@@ -1,6 +1,4 @@
-use Rattle.codec.proofs.Pieces.{sized-column}
 use native.Mathlib.Omega.{arith}
-use Rattle.codec.specs.Records.{capabilities}
 use borrow.Author.Needs.{needs}
 use Rattle.codec.proofs.writer.size_capability.Statement.{statement}
 use Rattle.codec.proofs.writer.size_capability.Tie as tie
@@ -8,51 +6,51 @@ use Rattle.codec.proofs.writer.size_capability.Tie as tie
 has-requires : tie.Need-has-requires
 has-requires c κs = search needs
 
-size-capability-requires : tie.Need-size-capability-requires
-size-capability-requires c κs = search needs
+size-if-requires : tie.Need-size-if-requires
+size-if-requires c κs = search needs
 
 has-requires-2 : tie.Need-has-requires-2
 has-requires-2 c κs = search needs
 
-size-block-requires : tie.Need-size-block-requires
-size-block-requires c κs = search needs
+size-if-requires-2 : tie.Need-size-if-requires-2
+size-if-requires-2 c κs = search needs
 
 has-requires-3 : tie.Need-has-requires-3
 has-requires-3 c κs = search needs
 
-size-capability-requires-2 : tie.Need-size-capability-requires-2
-size-capability-requires-2 c κs = search needs
+size-if-requires-3 : tie.Need-size-if-requires-3
+size-if-requires-3 c κs = search needs
 
 has-requires-4 : tie.Need-has-requires-4
 has-requires-4 c κs = search needs
 
-size-block-requires-2 : tie.Need-size-block-requires-2
-size-block-requires-2 c κs = search needs
+size-if-requires-4 : tie.Need-size-if-requires-4
+size-if-requires-4 c κs = search needs
 
 add-result : tie.Need-add-result
-add-result c = omega (arith, (sized-column capabilities (c .before .before .before .before .before .before .before .before .before .args .set) (c .before .before .before .before .before .before .before .before .before .args .c) (c .before .before .before .before .before .before .before .before .has .ensures) (c .before .before .before .before .before .has2 .ensures) (c .before .before .before .has3 .ensures) (c .before .has4 .ensures) (c .before .before .before .before .before .before .before .size-capability .ensures) (c .before .before .before .before .size-block .ensures (c .before .before .before .before .before .before .before .before .before .args .c .cs .«security_types»)) (c .before .before .size-capability2 .ensures) (c .size-block2 .ensures)) .1)
+add-result c = search needs
 
 add-result-2 : tie.Need-add-result-2
-add-result-2 c = omega (arith, (sized-column capabilities (c .before .before .before .before .before .before .before .before .before .args .set) (c .before .before .before .before .before .before .before .before .before .args .c) (c .before .before .before .before .before .before .before .before .has .ensures) (c .before .before .before .before .before .has2 .ensures) (c .before .before .before .has3 .ensures) (c .before .has4 .ensures) (c .before .before .before .before .before .before .before .size-capability .ensures) (c .before .before .before .before .size-block .ensures (c .before .before .before .before .before .before .before .before .before .args .c .cs .«security_types»)) (c .before .before .size-capability2 .ensures) (c .size-block2 .ensures)) .1)
+add-result-2 c = search needs
 
 add-result-3 : tie.Need-add-result-3
-add-result-3 c = omega (arith, (sized-column capabilities (c .before .before .before .before .before .before .before .before .before .args .set) (c .before .before .before .before .before .before .before .before .before .args .c) (c .before .before .before .before .before .before .before .before .has .ensures) (c .before .before .before .before .before .has2 .ensures) (c .before .before .before .has3 .ensures) (c .before .has4 .ensures) (c .before .before .before .before .before .before .before .size-capability .ensures) (c .before .before .before .before .size-block .ensures (c .before .before .before .before .before .before .before .before .before .args .c .cs .«security_types»)) (c .before .before .size-capability2 .ensures) (c .size-block2 .ensures)) .1)
+add-result-3 c = search needs
 
 returns : tie.Need-returns
-returns c = sized-column capabilities (c .before .before .before .before .before .before .before .before .before .args .set) (c .before .before .before .before .before .before .before .before .before .args .c) (c .before .before .before .before .before .before .before .before .has .ensures) (c .before .before .before .before .before .has2 .ensures) (c .before .before .before .has3 .ensures) (c .before .has4 .ensures) (c .before .before .before .before .before .before .before .size-capability .ensures) (c .before .before .before .before .size-block .ensures (c .before .before .before .before .before .before .before .before .before .args .c .cs .«security_types»)) (c .before .before .size-capability2 .ensures) (c .size-block2 .ensures)
+returns c = ((λ k. rw (c .size-if4 .ensures .0, c .before .before .size-if3 .ensures .0, c .before .before .before .before .size-if2 .ensures .0, c .before .before .before .before .before .before .size-if .ensures .0, c .before .has4 .ensures, c .before .before .before .has3 .ensures, c .before .before .before .before .before .has2 .ensures, c .before .before .before .before .before .before .before .has .ensures) (omega arith)), omega (arith, c .size-if4 .ensures .1, c .before .before .size-if3 .ensures .1, c .before .before .before .before .size-if2 .ensures .1, c .before .before .before .before .before .before .size-if .ensures .1))
 
 pub size-capability-spec : {M : Type 1} → statement M
 size-capability-spec =
     tie.close
     (tie.spec
     has-requires
-    size-capability-requires
+    size-if-requires
     has-requires-2
-    size-block-requires
+    size-if-requires-2
     has-requires-3
-    size-capability-requires-2
+    size-if-requires-3
     has-requires-4
-    size-block-requires-2
+    size-if-requires-4
     add-result
     add-result-2
     add-result-3

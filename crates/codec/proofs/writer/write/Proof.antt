@@ -2,9 +2,9 @@ use Rattle.codec.proofs.Pieces.{not-valid, as-response, as-settings, as
 use Rattle.codec.proofs.ValidCases.{rest-used, capability-used, configuration-used}
 use Rattle.codec.proofs.Outcomes.{and-true}
 use Rattle.codec.proofs.Laws.{failed, passed}
-use Rattle.codec.specs.Message.{assigned}
+use Rattle.codec.specs.Table.{assigned}
 use Rattle.codec.specs.Puts.{restZero}
-use Rattle.codec.specs.Records.{configurations}
+use Rattle.codec.specs.Blocks.{configurations}
 use Rattle.codec.specs.Valid.{TypedRecord, validColumn}
 use Rattle.codec.proofs.Types.{record-typed}
 use mathlib.Core.Bool.{_&&_}
@@ -17,17 +17,17 @@ typed : (c : tie.Start) → TypedRecord (c .args .value)
 typed c = record-typed (c .args .value) _ (c .good .0)
 
 -- what the tests of what is not used say
-rest : (c : tie.After-no-configuration) → (c .before .rest-zero .result && c .no-configuration .result) ≡ (restZero (c .before .before .before .before .before .args .value .set) (c .before .before .before .before .before .args .value .capability) && validColumn configurations 0 (c .before .before .before .before .before .args .value .configuration))
-rest c = rw (c .before .rest-zero .ensures, c .no-configuration .ensures)
+rest : (c : tie.After-is-zero-configuration) → (c .before .rest-zero .result && c .is-zero-configuration .result) ≡ (restZero (c .before .before .before .before .before .args .value .set) (c .before .before .before .before .before .args .value .capability) && validColumn configurations 0 (c .before .before .before .before .before .args .value .configuration))
+rest c = rw (c .before .rest-zero .ensures, c .is-zero-configuration .ensures)
 
-other : (c : tie.After-no-configuration2) → (c .before .assigned .result && c .no-configuration2 .result) ≡ (assigned (c .before .before .before .before .before .before .before .before .before .args .value .id) && validColumn configurations 0 (c .before .before .before .before .before .before .before .before .before .args .value .configuration))
-other c = rw (c .before .assigned .ensures, c .no-configuration2 .ensures)
+other : (c : tie.After-is-zero-configuration2) → (c .before .assigned .result && c .is-zero-configuration2 .result) ≡ (assigned (c .before .before .before .before .before .before .before .before .before .args .value .id) && validColumn configurations 0 (c .before .before .before .before .before .before .before .before .before .args .value .configuration))
+other c = rw (c .before .assigned .ensures, c .is-zero-configuration2 .ensures)
 
 rest-zero-requires : tie.Need-rest-zero-requires
 rest-zero-requires c κs = search needs
 
-no-configuration-requires : tie.Need-no-configuration-requires
-no-configuration-requires c κs = search needs
+is-zero-configuration-requires : tie.Need-is-zero-configuration-requires
+is-zero-configuration-requires c κs = search needs
 
 refused-requires : tie.Need-refused-requires
 refused-requires c κs = search needs
@@ -35,14 +35,14 @@ refused-requires c κs = search needs
 returns : tie.Need-returns
 returns c = record { typed = typed (c .before .before .before .before .before .before .before); writes = rw (c .refused .ensures) (not-valid (c .before .before .before .before .before .before .before .args .value) (c .before .before .before .before .before .before .before .args .out .now) (rest-used _ (c .before .before .before .before .if1 .taken) (failed (rest (c .before .before)) (c .before .if2 .taken)))) }
 
-write-response-requires : tie.Need-write-response-requires
-write-response-requires c κs = search needs
+write-capability-response-requires : tie.Need-write-capability-response-requires
+write-capability-response-requires c κs = search needs
 
 same-length : tie.Need-same-length
 same-length c = search needs
 
 returns-2 : tie.Need-returns-2
-returns-2 c = record { typed = typed (c .before .before .before .before .before .before .before .before .before .before); writes = as-response (c .before .before .before .before .before .before .before .before .before .before .args .value) (c .before .before .before .before .before .before .before .before .before .before .args .out .now) (c .before .before .before .before .before .before .before .if1 .taken) (passed (rest (c .before .before .before .before .before)) (c .before .before .before .before .if2 .left)) (c .before .before .write-response .ensures) }
+returns-2 c = record { typed = typed (c .before .before .before .before .before .before .before .before .before .before); writes = as-response (c .before .before .before .before .before .before .before .before .before .before .args .value) (c .before .before .before .before .before .before .before .before .before .before .args .out .now) (c .before .before .before .before .before .before .before .if1 .taken) (passed (rest (c .before .before .before .before .before)) (c .before .before .before .before .if2 .left)) (c .before .before .write-capability-response .ensures) }
 
 valid-capability-requires : tie.Need-valid-capability-requires
 valid-capability-requires c κs = search needs
@@ -53,20 +53,20 @@ refused-requires-2 c κs = search needs
 returns-3 : tie.Need-returns-3
 returns-3 c = record { typed = typed (c .before .before .before .before .before .before); writes = rw (c .refused2 .ensures) (not-valid (c .before .before .before .before .before .before .args .value) (c .before .before .before .before .before .before .args .out .now) (capability-used _ (c .before .before .before .if1 .left) (failed (c .before .before .valid-capability .ensures) (c .before .if3 .taken)))) }
 
-write-settings-requires : tie.Need-write-settings-requires
-write-settings-requires c κs = search needs
+write-configuration-requires : tie.Need-write-configuration-requires
+write-configuration-requires c κs = search needs
 
 same-length-2 : tie.Need-same-length-2
 same-length-2 c = search needs
 
 returns-4 : tie.Need-returns-4
-returns-4 c = record { typed = typed (c .before .before .before .before .before .before .before .before .before .before .before); writes = as-settings (c .before .before .before .before .before .before .before .before .before .before .before .args .value) (c .before .before .before .before .before .before .before .before .before .before .before .args .out .now) (c .before .before .before .before .before .before .before .before .if1 .left) (passed (c .before .before .before .before .before .before .before .valid-capability .ensures) (c .before .before .before .before .before .before .if3 .left)) (c .before .before .before .before .if4 .taken) (c .before .before .write-settings .ensures) }
+returns-4 c = record { typed = typed (c .before .before .before .before .before .before .before .before .before .before .before); writes = as-settings (c .before .before .before .before .before .before .before .before .before .before .before .args .value) (c .before .before .before .before .before .before .before .before .before .before .before .args .out .now) (c .before .before .before .before .before .before .before .before .if1 .left) (passed (c .before .before .before .before .before .before .before .valid-capability .ensures) (c .before .before .before .before .before .before .if3 .left)) (c .before .before .before .before .if4 .taken) (c .before .before .write-configuration .ensures) }
 
 assigned-requires : tie.Need-assigned-requires
 assigned-requires c κs = search needs
 
-no-configuration-requires-2 : tie.Need-no-configuration-requires-2
-no-configuration-requires-2 c κs = search needs
+is-zero-configuration-requires-2 : tie.Need-is-zero-configuration-requires-2
+is-zero-configuration-requires-2 c κs = search needs
 
 refused-requires-3 : tie.Need-refused-requires-3
 refused-requires-3 c κs = search needs
@@ -88,20 +88,20 @@ write-spec =
     tie.close
     (tie.spec
     rest-zero-requires
-    no-configuration-requires
+    is-zero-configuration-requires
     refused-requires
     returns
-    write-response-requires
+    write-capability-response-requires
     same-length
     returns-2
     valid-capability-requires
     refused-requires-2
     returns-3
-    write-settings-requires
+    write-configuration-requires
     same-length-2
     returns-4
     assigned-requires
-    no-configuration-requires-2
+    is-zero-configuration-requires-2
     refused-requires-3
     returns-5
     write-without-blocks-requires

@@ -14,8 +14,8 @@ valid-profile-requires c κs = search needs
 common-requires : tie.Need-common-requires
 common-requires c κs = search needs
 
-write-response-requires : tie.Need-write-response-requires
-write-response-requires c κs = search needs
+write-capability-response-requires : tie.Need-write-capability-response-requires
+write-capability-response-requires c κs = search needs
 
 mark-given-requires : tie.Need-mark-given-requires
 mark-given-requires c κs = search needs
@@ -27,7 +27,7 @@ same-length : tie.Need-same-length
 same-length c = search needs
 
 returns : tie.Need-returns
-returns c = let v = sym (c .before .before .before .before .before .before .before .before .valid-profile .ensures) ∙ c .before .before .before .before .before .before .before .if1 .taken in rw (c .answered .ensures) (advertised (c .before .before .before .before .before .before .before .before .before .before .before .args .s) (c .before .before .before .before .before .before .before .before .before .before .before .args .out .now) v (given (c .before .before .before .before .before .before .before .before .before .before .before .args .s) 15 (c .before .before .before .before .before .before .common .ensures) (c .before .mark-given .ensures) v (c .before .before .before .before .write-response .ensures)))
+returns c = let v = sym (c .before .before .before .before .before .before .before .before .valid-profile .ensures) ∙ c .before .before .before .before .before .before .before .if1 .taken in rw (c .answered .ensures) (advertised (c .before .before .before .before .before .before .before .before .before .before .before .args .s) (c .before .before .before .before .before .before .before .before .before .before .before .args .out .now) v (given (c .before .before .before .before .before .before .before .before .before .before .before .args .s) 15 (c .before .before .before .before .before .before .common .ensures) (c .before .mark-given .ensures) v (c .before .before .before .before .write-capability-response .ensures)))
 
 returns-2 : tie.Need-returns-2
 returns-2 c = rw (c .before .before .refusal .ensures) (not-valid (c .before .before .before .before .args .s) (advertisement (c .before .before .before .before .args .out .now)) (c .before .before .before .before .args .out .now) (sym (c .before .valid-profile .ensures) ∙ c .if1 .left))
@@ -39,7 +39,7 @@ advertise-spec =
     refusal-requires
     valid-profile-requires
     common-requires
-    write-response-requires
+    write-capability-response-requires
     mark-given-requires
     answered-requires
     same-length

@@ -63,8 +63,8 @@ refusal-requires c κs = search needs
 common-requires : tie.Need-common-requires
 common-requires c κs = search needs
 
-write-response-requires : tie.Need-write-response-requires
-write-response-requires c κs = search needs
+write-capability-response-requires : tie.Need-write-capability-response-requires
+write-capability-response-requires c κs = search needs
 
 mark-given-requires : tie.Need-mark-given-requires
 mark-given-requires c κs = search needs
@@ -136,7 +136,7 @@ message-spec =
     hear-requires
     refusal-requires
     common-requires
-    write-response-requires
+    write-capability-response-requires
     mark-given-requires
     answered-requires
     configure-requires

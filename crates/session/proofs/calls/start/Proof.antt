@@ -8,14 +8,14 @@ use borrow.Author.Needs.{needs}
 use Rattle.session.proofs.calls.start.Statement.{statement}
 use Rattle.session.proofs.calls.start.Tie as tie
 
-tested : (c : tie.After-no-configuration) → (((eqb (c .before .before .before .args .profile .id) 1 && c .before .valid-response .result) && c .no-configuration .result) && ltb (c .before .before .before .args .replies) 3) ≡ ((eqb (c .before .before .before .args .profile .id) 1 && valid (c .before .before .before .args .profile)) && ltb (c .before .before .before .args .replies) 3)
-tested c = rw (c .before .valid-response .ensures, c .no-configuration .ensures, start-tested (c .before .before .before .args .profile))
+tested : (c : tie.After-is-zero-configuration) → (((eqb (c .before .before .before .args .profile .id) 1 && c .before .valid-response .result) && c .is-zero-configuration .result) && ltb (c .before .before .before .args .replies) 3) ≡ ((eqb (c .before .before .before .args .profile .id) 1 && valid (c .before .before .before .args .profile)) && ltb (c .before .before .before .args .replies) 3)
+tested c = rw (c .before .valid-response .ensures, c .is-zero-configuration .ensures, start-tested (c .before .before .before .args .profile))
 
 valid-response-requires : tie.Need-valid-response-requires
 valid-response-requires c κs = search needs
 
-no-configuration-requires : tie.Need-no-configuration-requires
-no-configuration-requires c κs = search needs
+is-zero-configuration-requires : tie.Need-is-zero-configuration-requires
+is-zero-configuration-requires c κs = search needs
 
 zero-capability-requires : tie.Need-zero-capability-requires
 zero-capability-requires c κs = search needs
@@ -37,7 +37,7 @@ start-spec =
     tie.close
     (tie.spec
     valid-response-requires
-    no-configuration-requires
+    is-zero-configuration-requires
     zero-capability-requires
     fresh-requires
     returns

@@ -1,7 +1,8 @@
+use mathlib.Core.Bool.{and-true}
 use Rattle.codec.specs.Valid.{validColumn}
 use borrow.Author.Needs.{needs}
-use Rattle.codec.proofs.validity.no_configuration.Statement.{statement}
-use Rattle.codec.proofs.validity.no_configuration.Tie as tie
+use Rattle.codec.proofs.validity.is_zero_configuration.Statement.{statement}
+use Rattle.codec.proofs.validity.is_zero_configuration.Tie as tie
 
 valid-configuration-requires : tie.Need-valid-configuration-requires
 valid-configuration-requires c κs = search needs
@@ -17,10 +18,10 @@ valid-block-requires c κs = search needs
 
 returns : tie.Need-returns
 unfolding validColumn
-returns c = rw (c .before .before .before .valid-configuration .ensures, c .before .before .valid-configuration2 .ensures, c .before .valid-configuration3 .ensures, c .valid-block .ensures)
+returns c = simp (c .before .before .before .valid-configuration .ensures, c .before .before .valid-configuration2 .ensures, c .before .valid-configuration3 .ensures, c .valid-block .ensures, and-true)
 
-pub no-configuration-spec : {M : Type 1} → statement M
-no-configuration-spec =
+pub is-zero-configuration-spec : {M : Type 1} → statement M
+is-zero-configuration-spec =
     tie.close
     (tie.spec
     valid-configuration-requires

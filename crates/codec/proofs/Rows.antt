@@ -1,0 +1,67 @@
+-- What every row of the table keeps.
+use Prim.Native.Nat.{ℕ, _/_, _%_, _≤_}
+use native.Mathlib.Omega.{arith}
+use mathlib.Core.Path.{_≡_, sym, _∙_}
+use mathlib.Core.Option.{Option, none, some}
+use mathlib.Core.Bool.{Bool, true, false, cond, true≢false}
+use lib.Dec.{eqb}
+use borrow.Author.Tests.{eqb-true}
+use Rattle.codec.specs.Technology.{Technology, uwb, cs, nan, rssi, technologyId, known, names}
+use Rattle.codec.specs.Blocks.{Column, capabilities, configurations}
+use Rattle.codec.specs.Table.{messageOf, row, setIn}
+use Rattle.codec.proofs.Outcomes.{by-bool}
+use Rattle.codec.proofs.Bits.{bit-above}
+
+pub times-one : (id : ℕ) → 1 ≤ row id .times
+times-one id = go (eqb id 2)
+  where
+    go : (b : Bool) → 1 ≤ cond b 2 1
+    go true = omega arith
+    go false = omega arith
+
+pub times-two : (id : ℕ) → row id .times ≤ 2
+times-two id = go (eqb id 2)
+  where
+    go : (b : Bool) → cond b 2 1 ≤ 2
+    go true = omega arith
+    go false = omega arith
+
+-- the blocks of a message: those of its column, or none
+pub data Carries (id : ℕ) : Option Column → Type 0 where
+  nothing : ((k : Column) → eqb id (messageOf k) ≡ false) → Carries id none
+  column : (k : Column) → id ≡ messageOf k → Carries id (some k)
+
+pub carries : (id : ℕ) → Carries id (row id .blocks)
+carries id =
+    by-bool (eqb id 1)
+    (λ y. rw y (column capabilities (eqb-true id 1 y)))
+    (λ n. by-bool (eqb id 2) (λ y. rw (n, y) (column configurations (eqb-true id 2 y))) (λ m. rw (n, m) (nothing (neither n m))))
+  where
+    neither : eqb id 1 ≡ false → eqb id 2 ≡ false → (k : Column) → eqb id (messageOf k) ≡ false
+    neither n m capabilities = n
+    neither n m configurations = m
+
+pub column-there : (id : ℕ) (k : Column) → eqb id (messageOf k) ≡ true → row id .blocks ≡ some k
+column-there id capabilities e = rw e
+column-there id configurations e = rw (eqb-true id 2 e)
+
+-- ---- the technologies whose blocks a message has in a column
+
+pub none-named : (t : Technology) → names 0 t ≡ false
+none-named t = bit-above 0 0 (omega arith) (technologyId t) (omega arith)
+
+pub named-there : {C : Type 0} (id set : ℕ) (k : Column) (t : Technology) → names (setIn id set k) t ≡ true → (eqb id (messageOf k) ≡ true → names set t ≡ true → C) → C
+named-there id set k t h c =
+    by-bool (eqb id (messageOf k))
+    (λ y. c y (rw y at h))
+    (λ n. absurd (true≢false (sym (rw n at h) ∙ none-named t)))
+
+-- reserved bits change nothing
+low-bit : (s : ℕ) (t : Technology) → names (known s) t ≡ names s t
+low-bit s uwb = let q : s % 16 / 1 % 2 ≡ s / 1 % 2 = omega arith in rw q
+low-bit s cs = let q : s % 16 / 2 % 2 ≡ s / 2 % 2 = omega arith in rw q
+low-bit s nan = let q : s % 16 / 4 % 2 ≡ s / 4 % 2 = omega arith in rw q
+low-bit s rssi = let q : s % 16 / 8 % 2 ≡ s / 8 % 2 = omega arith in rw q
+
+pub known-named : (id set : ℕ) (k : Column) (t : Technology) → names (setIn id (known set) k) t ≡ names (setIn id set k) t
+known-named id set k t = by-bool (eqb id (messageOf k)) (λ y. rw y (low-bit set t)) (λ n. rw n)
