@@ -10,7 +10,7 @@ use Rattle.codec.proofs.Outcomes.{by-bool}
 use Rattle.codec.specs.declared.records.Written.{Written}
 use Rattle.codec.specs.Refusal.{Checked, refuse, accept}
 use Rattle.codec.specs.Writing.{fitting, LaysOut}
-use Rattle.codec.specs.Puts.{over, Put}
+use Rattle.codec.specs.Inner.Puts.{over, Put}
 use Rattle.bench_log.specs.Text.{decimal}
 use Rattle.bench_log.specs.Listing.{letter, verdict, lastLine, lineLimit}
 use Rattle.bench_log.specs.declared.entry.Entry.{Entry}

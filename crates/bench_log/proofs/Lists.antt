@@ -5,7 +5,7 @@ use native.Mathlib.Numerals.{add-one}
 use mathlib.Core.Path.{_≡_, refl, sym, ap, _∙_}
 use mathlib.Core.List.{List, [], _∷_, _++_, append-assoc}
 use lib.ListN.{length, drop, length-append}
-use Rattle.codec.specs.Puts.{over, Put}
+use Rattle.codec.specs.Inner.Puts.{over, Put}
 use Rattle.codec.specs.Octets.{part}
 use Rattle.codec.proofs.Puts.{put-then, put-last, put-none}
 use Rattle.bench_log.specs.LogRecord.{recordSize, entryOf}

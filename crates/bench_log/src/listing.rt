@@ -14,7 +14,7 @@ ghost use mathlib.Core.Path.{_≡_};
 ghost use mathlib.Core.List.{_++_};
 ghost use Prim.Native.Nat.{_+_, _≤_, min};
 ghost use lib.ListN.{length};
-ghost use Rattle.codec.specs.Puts.{Put};
+ghost use Rattle.codec.specs.Inner.Puts.{Put};
 ghost use Rattle.codec.specs.Writing.{fitting, LaysOut};
 ghost use Rattle.bench_log.specs.Text.{decimal};
 ghost use Rattle.bench_log.specs.Listing.{letter, verdict, line, lastLine, lineLimit, Lists};

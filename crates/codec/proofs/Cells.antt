@@ -1,5 +1,5 @@
 -- The cells of the table: a law of each layout is a law of each cell, and a record keeps the fields of every cell.
-use Prim.Native.Nat.{ℕ, zero, suc, _≤_, _<_}
+use Prim.Native.Nat.{ℕ, _≤_, _<_}
 use native.Mathlib.Omega.{arith}
 use mathlib.Core.Path.{_≡_, refl, fun-ext}
 use mathlib.Core.Bool.{true}
@@ -10,7 +10,7 @@ use Rattle.codec.specs.Technology.{Technology, uwb, cs, nan, rssi, techn
 use Rattle.codec.specs.Layout.{Layout, Values, zeroes, value}
 use Rattle.codec.specs.Blocks.{uwbCapability, csCapability, nanCapability, rssiBlock, uwbConfiguration, csConfiguration, nanConfiguration, Column, capabilities, configurations, cell, layouts}
 use Rattle.codec.specs.Records.{make, fields, toRecord, ofRecord}
-use Rattle.codec.specs.Places.{Roomy}
+use Rattle.codec.specs.Inner.Places.{Roomy}
 use Rattle.codec.specs.declared.records.Record.{Record}
 use Rattle.codec.proofs.Layouts.{fits, most}
 

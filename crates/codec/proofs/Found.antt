@@ -17,7 +17,7 @@ use Rattle.codec.specs.Table.{messageLimit, assigned, readable, messageO
 use Rattle.codec.specs.Records.{make, answer, accepted, refused}
 use Rattle.codec.specs.Message.{versionOf, idOf, setOf, setsAgree, blocksAt, blockAt, also, noId, blockFault, Walked, prepend, walk, endFault, blocksFrom, afterHead, body, parse, fieldsIn, recordOf, reading}
 use Rattle.codec.specs.WellFormed.{Whole, Each}
-use Rattle.codec.specs.Places.{Roomy, note, noted, carriesBlocks, Judged, blockOrZeros, columnFound, Placed, recordAt}
+use Rattle.codec.specs.Inner.Places.{Roomy, note, noted, carriesBlocks, Judged, blockOrZeros, columnFound, Placed, recordAt}
 use Rattle.codec.proofs.Outcomes.{by-bool, by-number, and-true, or-false, demanded, chained}
 use Rattle.codec.proofs.Layouts.{roomy}
 use Rattle.codec.proofs.Cells.{cell-fits, cell-zeros, layout-of, technology-below}

@@ -10,7 +10,7 @@ use borrow.Author.Tests.{le-leb, leb-true, eqb-true}
 use Rattle.codec.specs.Refusal.{accept, notAllowed, blockTooSmall}
 use Rattle.codec.specs.Octets.{part, ofLE}
 use Rattle.codec.specs.Layout.{Test, any, oneOf, between, Layout, number, octets, counted, member, inside, test, spelled, Values, allowed, Typed, write, value, need, least, fault}
-use Rattle.codec.specs.Places.{Roomy}
+use Rattle.codec.specs.Inner.Places.{Roomy}
 use Rattle.codec.proofs.Laws.{long-LE}
 use Rattle.codec.proofs.Outcomes.{and-true, or-true, demanded}
 

@@ -7,7 +7,8 @@ use lib.ListN.{length, getD}
 use Rattle.codec.specs.Refusal.{Checked, refuse, accept, numberIn}
 use Rattle.codec.specs.Table.{row, blockCount, layoutsOf}
 use Rattle.codec.specs.Message.{idOf, setOf, blocksAt, blockAt, placeAfter, also, noId, blockFault, Walked, prepend, walk, parse}
-use Rattle.codec.specs.Listing.{noBlock, nthFrom, listed, nthBlock, headAt, Passes, Lists}
+use Rattle.codec.specs.Listing.{noBlock, nthFrom, listed, nthBlock}
+use Rattle.codec.specs.Inner.Places.{headAt, Passes, NthBlock}
 use Rattle.codec.specs.declared.records.Block.{Block}
 use Rattle.codec.proofs.Outcomes.{by-number, chained}
 use Rattle.codec.proofs.WalkCases.{Sound, sound}
@@ -28,7 +29,7 @@ module _ (m : List ℕ) (at : ℕ) where
       k (record { layouts = p .layouts; set = p .set; came = came; walked = w; accepted = rw (sub-one (suc left)) e₂ }) (sound (p .layouts) (p .set) m (p .came) at a) (cc)
 
   module _ (left : ℕ) where
-    pub lists-none : (n : ℕ) → left ≡ 0 → Lists m left at n noBlock
+    pub lists-none : (n : ℕ) → left ≡ 0 → NthBlock m left at n noBlock
     unfolding walk
     lists-none n z p =
         let e : _≡_ {A = Checked Walked} (accept (record { blocks = []; end = at })) (accept (p .walked)) = rw z at (p .accepted) in
@@ -42,10 +43,10 @@ module _ (m : List ℕ) (at : ℕ) where
       pub passes-next : Passes m left at → Passes m (left - 1) (placeAfter m at)
       passes-next p = turn left p some λ q s e. q
 
-      pub lists-first : (n : ℕ) → n ≡ 0 → Lists m left at n (headAt m at)
+      pub lists-first : (n : ℕ) → n ≡ 0 → NthBlock m left at n (headAt m at)
       lists-first n z p = turn left p some λ q s e. rw (z, ← e, s .first, s .size)
 
-      pub lists-next : (n : ℕ) (r : Block) → (n ≡ 0 → ⊥) → Lists m (left - 1) (placeAfter m at) (n - 1) r → Lists m left at n r
+      pub lists-next : (n : ℕ) (r : Block) → (n ≡ 0 → ⊥) → NthBlock m (left - 1) (placeAfter m at) (n - 1) r → NthBlock m left at n r
       lists-next zero r z h p = absurd (z refl)
       lists-next (suc n) r z h p =
           turn left p some λ q s e.
@@ -74,6 +75,6 @@ module _ (m : List ℕ) (f : ℕ) (e : f ≡ numberIn (parse m)) where
     pub passes-all : Passes m (blockCount (row (idOf m) .blocks) (setOf m)) (blocksAt (row (idOf m) .times))
     passes-all = by-number (parse m) (sym e ∙ z) λ blocks a. passes m blocks a
 
-    pub lists-message : (n : ℕ) (r : Block) → Lists m (blockCount (row (idOf m) .blocks) (setOf m)) (blocksAt (row (idOf m) .times)) n r → r ≡ nthBlock m n
+    pub lists-message : (n : ℕ) (r : Block) → NthBlock m (blockCount (row (idOf m) .blocks) (setOf m)) (blocksAt (row (idOf m) .times)) n r → r ≡ nthBlock m n
     unfolding nthBlock
     lists-message n r h = by-number (parse m) (sym e ∙ z) λ blocks a. rw a (h (passes m blocks a))

@@ -13,7 +13,7 @@ use Rattle.codec.specs.Refusal.{Checked, refuse, accept, andThen, number
 use Rattle.codec.specs.Layout.{Layout, member}
 use Rattle.codec.specs.Table.{messageLimit, assigned, readable, Row, row, blockCount, layoutsOf}
 use Rattle.codec.specs.Message.{versionOf, idOf, setOf, setsAgree, blocksAt, noId, Walked, walk, endFault, blocksFrom, afterHead, body, parse}
-use Rattle.codec.specs.Places.{noted, setAlone, Finds, Judged}
+use Rattle.codec.specs.Inner.Places.{noted, setAlone, Finds, Judged}
 use Rattle.codec.proofs.Outcomes.{by-bool, no-zero}
 
 -- ---- what is judged

@@ -18,7 +18,7 @@ use Rattle.codec.specs.Valid.{validFields, validColumn, valid}
 use Rattle.codec.specs.WellFormed.{sets}
 use Rattle.codec.specs.NormalForm.{block, rising, columnBlocks, normal}
 use Rattle.codec.specs.Writing.{writing, Writes}
-use Rattle.codec.specs.Puts.{over, Put, blockIf, head, chain, columnOctets, Held, Fit, restZero}
+use Rattle.codec.specs.Inner.Puts.{over, Put, blockIf, head, chain, columnOctets, Held, Fit, restZero}
 use Rattle.codec.specs.declared.records.Capability.{Capability}
 use Rattle.codec.specs.declared.records.Configuration.{Configuration}
 use Rattle.codec.specs.declared.records.Record.{Record}

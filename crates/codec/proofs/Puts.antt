@@ -12,7 +12,7 @@ use Rattle.codec.specs.Octets.{toLE}
 use Rattle.codec.specs.Technology.{Technology, technologyId, names}
 use Rattle.codec.specs.Layout.{Layout, number, octets, counted, Values, Typed, write}
 use Rattle.codec.specs.Blocks.{Column, cell}
-use Rattle.codec.specs.Puts.{over, Put, blockIf, taken, blockSize, chain, chainSize, Held}
+use Rattle.codec.specs.Inner.Puts.{over, Put, blockIf, taken, blockSize, chain, chainSize, Held}
 use Rattle.codec.proofs.Laws.{long-LE}
 
 module _ (d : List ℕ) (at : ℕ) where

@@ -12,7 +12,7 @@ use Rattle.codec.specs.Blocks.{Column, capabilities, configurations, cel
 use Rattle.codec.specs.Table.{assigned}
 use Rattle.codec.specs.Records.{blank, fields, response, only, settings, withoutBlocks, messageId, setRecord}
 use Rattle.codec.specs.Valid.{validFields, every, validColumn, valid}
-use Rattle.codec.specs.Puts.{restZero}
+use Rattle.codec.specs.Inner.Puts.{restZero}
 use Rattle.codec.specs.declared.records.Capability.{Capability}
 use Rattle.codec.specs.declared.records.Configuration.{Configuration}
 use Rattle.codec.specs.declared.records.Record.{Record}

@@ -14,7 +14,7 @@ use Rattle.codec.specs.Refusal.{Checked, refuse, accept, demand, andThen
 use Rattle.codec.specs.Layout.{Layout, least, fault}
 use Rattle.codec.specs.Technology.{bit}
 use Rattle.codec.specs.Message.{blockAt, noId, also, blockFault, Walked, prepend, walk}
-use Rattle.codec.specs.Places.{sizeFault, fieldsFault, awaitedFault, Awaits, note, noted, Finds}
+use Rattle.codec.specs.Inner.Places.{sizeFault, fieldsFault, awaitedFault, Awaits, note, noted, Finds}
 use Rattle.codec.proofs.Laws.{part-length}
 use Rattle.codec.proofs.Outcomes.{by-bool, by-number, demanded, chained}
 use Rattle.codec.proofs.Layouts.{least-from}

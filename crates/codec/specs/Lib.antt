@@ -12,6 +12,5 @@ pub mod NormalForm
 pub mod Writing
 pub mod Demand2
 pub mod Starred
-pub mod Places
 pub mod Listing
-pub mod Puts
+pub mod Inner

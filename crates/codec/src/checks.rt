@@ -22,7 +22,7 @@ ghost use lib.ListN.{length};
 ghost use Rattle.codec.specs.Refusal.{numberIn};
 ghost use Rattle.codec.specs.Table.{messageLimit, readable, row};
 ghost use Rattle.codec.specs.Message.{idOf, setOf, endFault, blocksFrom, body, parse, blocksAt};
-ghost use Rattle.codec.specs.Places.{layoutsBy, setAlone, carriesBlocks, Judged};
+ghost use Rattle.codec.specs.Inner.Places.{layoutsBy, setAlone, carriesBlocks, Judged};
 
 // A message has at most so many octets.
 pub const MESSAGE_LIMIT: usize = 256;

@@ -15,8 +15,8 @@ ghost use Rattle.codec.specs.Layout.{value, fault};
 ghost use Rattle.codec.specs.Blocks.{csCapability, csConfiguration};
 ghost use Rattle.codec.specs.Records.{toCsCapability, toCsConfiguration, ofCsCapability, ofCsConfiguration};
 ghost use Rattle.codec.specs.Valid.{validFields};
-ghost use Rattle.codec.specs.Puts.{Put, blockIf};
-ghost use Rattle.codec.specs.Places.{Roomy};
+ghost use Rattle.codec.specs.Inner.Puts.{Put, blockIf};
+ghost use Rattle.codec.specs.Inner.Places.{Roomy};
 
 #[repr(C)]
 pub struct CsCapability {

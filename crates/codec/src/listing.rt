@@ -8,7 +8,8 @@ use crate::walker::next_place;
 ghost use mathlib.Core.Path.{_≡_};
 ghost use Prim.Native.Nat.{_+_, _≤_};
 ghost use lib.ListN.{length};
-ghost use Rattle.codec.specs.Listing.{noBlock, nthBlock, headAt, Passes, Lists};
+ghost use Rattle.codec.specs.Listing.{noBlock, nthBlock};
+ghost use Rattle.codec.specs.Inner.Places.{headAt, Passes, NthBlock};
 
 fn no_block() -> Block
     ensures { λ r. ⌜ r ≡ noBlock ⌝ }
@@ -35,7 +36,7 @@ fn block_at(m: &[u8], at: usize) -> Block
 // The n-th block from a place on, of as many as are left.
 fn nth_block(m: &[u8], at: usize, left: u32, n: usize) -> Block
     requires { ⌜ Passes (now m) left at ⌝ }
-    ensures { λ r. ⌜ Lists (now (m .entry)) left at n r ⌝ }
+    ensures { λ r. ⌜ NthBlock (now (m .entry)) left at n r ⌝ }
 {
     if left == 0 {
         return no_block();

@@ -5,7 +5,7 @@ ghost use Prim.Native.Nat.{_+_, _-_, _*_, _≤_, _<_};
 ghost use lib.ListN.{length, take, drop, replicate};
 ghost use Rattle.codec.specs.Octets.{allZero, part, ofLE, toLE};
 ghost use Rattle.codec.specs.Layout.{inside};
-ghost use Rattle.codec.specs.Puts.{Put};
+ghost use Rattle.codec.specs.Inner.Puts.{Put};
 
 pub(crate) fn inside(low: u8, high: u8, x: u8) -> bool
     ensures { λ r. ⌜ r ≡ inside low high x ⌝ }

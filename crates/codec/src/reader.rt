@@ -23,7 +23,7 @@ ghost use Rattle.codec.specs.Blocks.{Column, capabilities, configuration
 ghost use Rattle.codec.specs.Table.{messageOf};
 ghost use Rattle.codec.specs.Message.{idOf, reading, Reads};
 ghost use Rattle.codec.specs.Records.{accepted, answer, forTag};
-ghost use Rattle.codec.specs.Places.{Placed, blockOrZeros, columnAt, recordAt};
+ghost use Rattle.codec.specs.Inner.Places.{Placed, blockOrZeros, columnAt, recordAt};
 
 // The octets of the block at a place; zeros, which read as zero fields, for place 0.
 fn block_or_zeros<'a>(m: &'a [u8], at: u16, zeros: &'a [u8]) -> &'a [u8]

@@ -12,8 +12,8 @@ ghost use Rattle.codec.specs.Layout.{value};
 ghost use Rattle.codec.specs.Blocks.{rssiBlock};
 ghost use Rattle.codec.specs.Records.{toRssi, ofRssi};
 ghost use Rattle.codec.specs.Valid.{validFields};
-ghost use Rattle.codec.specs.Puts.{Put, blockIf};
-ghost use Rattle.codec.specs.Places.{Roomy};
+ghost use Rattle.codec.specs.Inner.Puts.{Put, blockIf};
+ghost use Rattle.codec.specs.Inner.Places.{Roomy};
 
 #[repr(C)]
 pub struct Rssi {

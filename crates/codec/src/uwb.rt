@@ -25,8 +25,8 @@ ghost use Rattle.codec.specs.Layout.{member, inside, alphabetic, test, z
 ghost use Rattle.codec.specs.Blocks.{interval, uwbCapability, uwbConfiguration, uwbAfterKey};
 ghost use Rattle.codec.specs.Records.{toUwbCapability, toUwbConfiguration, ofUwbCapability, ofUwbConfiguration};
 ghost use Rattle.codec.specs.Valid.{validFields};
-ghost use Rattle.codec.specs.Puts.{Put, blockIf, setOctets, beforeKey, afterKey};
-ghost use Rattle.codec.specs.Places.{Roomy};
+ghost use Rattle.codec.specs.Inner.Puts.{Put, blockIf, setOctets, beforeKey, afterKey};
+ghost use Rattle.codec.specs.Inner.Places.{Roomy};
 
 #[repr(C)]
 pub struct Channel(pub u8);

@@ -15,7 +15,7 @@ ghost use Rattle.codec.specs.Blocks.{capabilities, configurations};
 ghost use Rattle.codec.specs.Table.{assigned};
 ghost use Rattle.codec.specs.Records.{response, only};
 ghost use Rattle.codec.specs.Valid.{validColumn, valid};
-ghost use Rattle.codec.specs.Puts.{restZero};
+ghost use Rattle.codec.specs.Inner.Puts.{restZero};
 
 pub(crate) fn assigned(id: u8) -> bool
     ensures { λ r. ⌜ r ≡ assigned id ⌝ }

@@ -14,7 +14,7 @@ ghost use lib.ListN.{length, getD};
 ghost use Rattle.codec.specs.Refusal.{numberIn};
 ghost use Rattle.codec.specs.Table.{messageLimit};
 ghost use Rattle.codec.specs.Message.{idOf, walk};
-ghost use Rattle.codec.specs.Places.{layoutsBy, sizeFault, fieldsFault, awaitedFault, Awaits, note, Finds};
+ghost use Rattle.codec.specs.Inner.Places.{layoutsBy, sizeFault, fieldsFault, awaitedFault, Awaits, note, Finds};
 
 // The first fault in the size of a block, with so many octets left in the message, 0 for none.
 fn size_fault(size: u8, least: u8, left: usize) -> u8

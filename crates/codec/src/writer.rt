@@ -34,7 +34,7 @@ ghost use Rattle.codec.specs.Blocks.{capabilities, configurations};
 ghost use Rattle.codec.specs.Table.{assigned};
 ghost use Rattle.codec.specs.Records.{response, only, settings, withoutBlocks, setRecord};
 ghost use Rattle.codec.specs.Writing.{Writes, WritesTyped};
-ghost use Rattle.codec.specs.Puts.{Put, head, columnOctets, columnSize, Fit};
+ghost use Rattle.codec.specs.Inner.Puts.{Put, head, columnOctets, columnSize, Fit};
 
 // How many octets a block takes, if it is there.
 fn size_if(present: bool, size: usize) -> usize

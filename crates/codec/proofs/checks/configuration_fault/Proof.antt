@@ -1,7 +1,7 @@
 use Rattle.codec.proofs.MessageCases.{judged-refused, judged-as, body-unread, body-short, body-sets, body-blocks}
 use Rattle.codec.specs.Table.{row}
 use Rattle.codec.specs.Message.{setOf, blocksFrom}
-use Rattle.codec.specs.Places.{layoutsBy}
+use Rattle.codec.specs.Inner.Places.{layoutsBy}
 use lib.Count.{ones}
 use Prim.Native.Nat.{ℕ}
 use Rattle.codec.proofs.Laws.{failed, passed}

@@ -4,7 +4,7 @@ use Rattle.codec.proofs.MessageCases.{six-or-seven, not-assigned}
 use Rattle.codec.specs.Refusal.{numberIn}
 use Rattle.codec.specs.Table.{assigned, Row, row}
 use Rattle.codec.specs.Message.{idOf}
-use Rattle.codec.specs.Places.{setAlone, carriesBlocks}
+use Rattle.codec.specs.Inner.Places.{setAlone, carriesBlocks}
 use Rattle.codec.specs.Layout.{member}
 use mathlib.Core.Logic.{inl, inr, ⊎-elim}
 use mathlib.Core.Bool.{true}

@@ -1,5 +1,5 @@
 use Rattle.codec.proofs.MessageCases.{body-unread, body-short, set-end}
-use Rattle.codec.specs.Places.{setAlone}
+use Rattle.codec.specs.Inner.Places.{setAlone}
 use Rattle.codec.proofs.Laws.{failed, passed}
 use mathlib.Core.Path.{_∙_}
 use borrow.Author.Needs.{needs}

@@ -5,7 +5,7 @@ use borrow.Author.Tests.{ne-eqb}
 use mathlib.Core.Path.{_∙_}
 use Rattle.codec.specs.Table.{row, blockCount}
 use Rattle.codec.specs.Message.{idOf, setOf, blocksAt}
-use Rattle.codec.specs.Listing.{Passes}
+use Rattle.codec.specs.Inner.Places.{Passes}
 use Rattle.codec.proofs.Listed.{lists-none, lists-refused, room, passes-all, lists-message}
 use borrow.Author.Needs.{needs}
 use Rattle.codec.proofs.listing.block.Statement.{statement}

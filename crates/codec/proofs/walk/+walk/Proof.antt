@@ -7,7 +7,7 @@ use Prim.Native.Nat.{ℕ, _<_}
 use borrow.Fn.Kinds.{In}
 use borrow.Fn.PlainCycle.{Measures, is, falls, and}
 use Rattle.codec.specs.Message.{idOf, also, blockFault}
-use Rattle.codec.specs.Places.{layoutsBy}
+use Rattle.codec.specs.Inner.Places.{layoutsBy}
 use Rattle.codec.specs.Refusal.{accept, numberIn}
 use Rattle.codec.proofs.walk.walk.Reads as walk
 use Rattle.codec.proofs.walk.walk.Kinds as walk-kinds

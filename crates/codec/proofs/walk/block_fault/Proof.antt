@@ -2,7 +2,7 @@ use Rattle.codec.proofs.Laws.{failed, passed}
 use Rattle.codec.proofs.WalkCases.{passed-over}
 use Rattle.codec.proofs.Cells.{no-layout}
 use Rattle.codec.specs.Message.{idOf}
-use Rattle.codec.specs.Places.{layoutsBy}
+use Rattle.codec.specs.Inner.Places.{layoutsBy}
 use Rattle.codec.specs.Technology.{bit}
 use borrow.Author.Tests.{le-leb, lt-leb}
 use Prim.Native.Nat.{_+_, _≤_, _<_}

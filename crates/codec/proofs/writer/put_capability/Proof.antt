@@ -5,7 +5,7 @@ use Rattle.codec.specs.Technology.{Technology, uwb, cs, nan, rssi, techn
 use Rattle.codec.specs.Layout.{Typed}
 use Rattle.codec.specs.Blocks.{capabilities, cell}
 use Rattle.codec.specs.Records.{fields}
-use Rattle.codec.specs.Puts.{chain}
+use Rattle.codec.specs.Inner.Puts.{chain}
 use mathlib.Core.List.{[], _∷_}
 use borrow.Author.Needs.{needs}
 use Rattle.codec.proofs.writer.put_capability.Statement.{statement}

@@ -3,7 +3,7 @@ use Rattle.codec.proofs.ValidCases.{rest-used, capability-used, configu
 use Rattle.codec.proofs.Outcomes.{and-true}
 use Rattle.codec.proofs.Laws.{failed, passed}
 use Rattle.codec.specs.Table.{assigned}
-use Rattle.codec.specs.Puts.{restZero}
+use Rattle.codec.specs.Inner.Puts.{restZero}
 use Rattle.codec.specs.Blocks.{configurations}
 use Rattle.codec.specs.Valid.{TypedRecord, validColumn}
 use Rattle.codec.proofs.Types.{record-typed}

@@ -3,7 +3,7 @@ use Rattle.codec.proofs.Puts.{put-then, chain-size}
 use Rattle.codec.proofs.Types.{capability-typed}
 use Rattle.codec.specs.Technology.{technologies}
 use Rattle.codec.specs.Blocks.{capabilities}
-use Rattle.codec.specs.Puts.{columnOctets, columnSize}
+use Rattle.codec.specs.Inner.Puts.{columnOctets, columnSize}
 use Rattle.codec.proofs.Laws.{failed, passed}
 use Rattle.codec.specs.Records.{fields, response, only}
 use native.Mathlib.Omega.{arith}

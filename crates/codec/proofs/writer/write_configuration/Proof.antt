@@ -4,7 +4,7 @@ use Rattle.codec.proofs.Outcomes.{and-true}
 use Rattle.codec.proofs.Puts.{put-then, chain-size}
 use Rattle.codec.proofs.Types.{configuration-typed}
 use Rattle.codec.specs.Technology.{technologies}
-use Rattle.codec.specs.Puts.{columnOctets, columnSize, Fit}
+use Rattle.codec.specs.Inner.Puts.{columnOctets, columnSize, Fit}
 use Rattle.codec.proofs.Laws.{failed, passed}
 use Rattle.codec.specs.Blocks.{configurations}
 use Rattle.codec.specs.Records.{fields, settings}

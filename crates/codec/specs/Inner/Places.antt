@@ -1,4 +1,4 @@
--- What the inner functions of the reader keep: the places of the known technologies' blocks, and what reading a block without a fault rests on.
+-- What the inner functions of the reader and of the listing keep: the places of the known technologies' blocks, and what reading a block without a fault rests on.
 use Prim.Native.Nat.{ℕ, _+_, _-_, _≤_}
 use mathlib.Core.Path.{_≡_}
 use mathlib.Core.List.{List, [], _∷_}
@@ -12,8 +12,10 @@ use Rattle.codec.specs.Layout.{Layout, number, octets, counted, value, l
 use Rattle.codec.specs.Blocks.{Column, capabilities, configurations, cell, layouts}
 use Rattle.codec.specs.Table.{messageOf, Row}
 use Rattle.codec.specs.Records.{StructOf, make, blank}
-use Rattle.codec.specs.Message.{Walked, idOf, setOf, blockAt}
+use Rattle.codec.specs.Message.{Walked, walk, idOf, setOf, blockAt}
+use Rattle.codec.specs.Listing.{nthFrom}
 use Rattle.codec.specs.declared.records.Record.{Record}
+use Rattle.codec.specs.declared.records.Block.{Block}
 
 -- the octets of a block reach past its last field, and what is counted fits its array
 abbrev pub Roomy : Layout → ℕ → List ℕ → Type 0
@@ -102,3 +104,21 @@ pub record Placed (k : Column) (m found : List ℕ) : Type 0 where
   pub whole : (t : Technology) → let at = getD found (technologyId t) 0 in (at ≡ 0 → ⊥) → (at + 2 ≤ length m) × (at + getD m (at + 1) 0 ≤ length m)
   pub roomy : (t : Technology) → Roomy (cell k t) 2 (blockOrZeros m (getD found (technologyId t) 0))
   pub size : length found ≡ 5
+
+-- ---- the listing: the blocks that are left from a place on
+
+-- the head of the block at a place
+abbrev pub headAt : List ℕ → ℕ → Block
+headAt m at = record { place = at; id = getD m at 0; size = getD m (at + 1) 0 }
+
+-- the walk passes over as many blocks
+pub record Passes (m : List ℕ) (left at : ℕ) : Type 0 where
+  pub layouts : ℕ → Layout
+  pub set : ℕ
+  pub came : ℕ → Bool
+  pub walked : Walked
+  pub accepted : walk layouts set m left came at ≡ accept walked
+
+-- the n-th of them
+abbrev pub NthBlock : List ℕ → ℕ → ℕ → ℕ → Block → Type 0
+NthBlock m left at n r = (p : Passes m left at) → r ≡ nthFrom (p .walked .blocks) at n
