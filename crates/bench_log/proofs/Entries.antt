@@ -7,6 +7,7 @@ use lib.Dec.{leb, ltb, eqb}
 use lib.ListN.{length, getD}
 use borrow.Author.Tests.{leb-true, eqb-true}
 use Rattle.codec.proofs.Outcomes.{and-true}
+use Rattle.codec.specs.Refusal.{numberOf, brokenRecord}
 use Rattle.codec.specs.Table.{messageLimit}
 use Rattle.codec.specs.Message.{reading}
 use Rattle.codec.specs.Records.{answer}
@@ -27,7 +28,7 @@ kept r e =
     let l = and-true (leb (lengthIn r) messageLimit) _ (z .1) in
     record { size = eqb-true _ _ (a .0); fits = leb-true _ _ (l .0) }
 
-pub entry-broken : (r : List ℕ) → keepsLayout r ≡ false → record { direction = 0; refusal = 13; id = 0; set = 0 } ≡ entryOf r
+pub entry-broken : (r : List ℕ) → keepsLayout r ≡ false → record { direction = 0; refusal = numberOf brokenRecord; id = 0; set = 0 } ≡ entryOf r
 unfolding entryOf readingOf
 entry-broken r e = rw e
 

@@ -8,7 +8,7 @@ use lib.Dec.{eqb}
 use lib.ListN.{length, length-append}
 use Rattle.codec.proofs.Outcomes.{by-bool}
 use Rattle.codec.specs.declared.records.Written.{Written}
-use Rattle.codec.specs.Refusal.{Checked, refuse, accept}
+use Rattle.codec.specs.Refusal.{Checked, refuse, accept, numberOf, bufferTooShort}
 use Rattle.codec.specs.Writing.{fitting, LaysOut}
 use Rattle.codec.specs.Inner.Puts.{over, Put}
 use Rattle.bench_log.specs.Text.{decimal}
@@ -47,7 +47,7 @@ line-limit n e f r i s =
     )
 
 -- a buffer that is too short, and one that is not
-pub lays-none : (w d : List ℕ) → length d < length w → LaysOut (fitting w (length d)) d (record { refusal = 11; length = 0 }) d
+pub lays-none : (w d : List ℕ) → length d < length w → LaysOut (fitting w (length d)) d (record { refusal = numberOf bufferTooShort; length = 0 }) d
 lays-none w d h = record { answers = rw (lt-leb _ _ h); leaves = rw (lt-leb _ _ h) }
 
 pub lays : {w d e : List ℕ} {n : ℕ} → Put d 0 w e n → LaysOut (fitting w (length d)) d (record { refusal = 0; length = n }) e

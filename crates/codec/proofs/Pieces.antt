@@ -8,6 +8,7 @@ use mathlib.Core.List.{List, [], _∷_, _++_, flatten}
 use lib.Dec.{eqb}
 use lib.ListN.{length}
 use borrow.Author.Tests.{eqb-true, eq-eqb, ne-eqb, lt-leb, le-leb}
+use Rattle.codec.specs.Refusal.{numberOf, bufferTooShort, notValid}
 use Rattle.codec.specs.Octets.{toLE, allZero}
 use Rattle.codec.specs.Technology.{Technology, uwb, cs, nan, rssi, technologyId, technologies, names}
 use Rattle.codec.specs.Layout.{Layout, number, octets, counted, test, spelled, Values, zeroes, allowed, cleared, zeroed}
@@ -135,11 +136,11 @@ uncounted c rssi = tt
 -- ---- the writer's answers
 
 module _ (r : Record) (d : List ℕ) where
-  pub not-valid : valid r ≡ false → Writes r d (record { refusal = 12; length = 0 }) d
+  pub not-valid : valid r ≡ false → Writes r d (record { refusal = numberOf notValid; length = 0 }) d
   unfolding writing
   not-valid h = record { answers = rw h; leaves = rw h }
 
-  pub too-short : valid r ≡ true → length d < length (normal r) → Writes r d (record { refusal = 11; length = 0 }) d
+  pub too-short : valid r ≡ true → length d < length (normal r) → Writes r d (record { refusal = numberOf bufferTooShort; length = 0 }) d
   unfolding writing
   too-short h l = let b = lt-leb (length (normal r)) (length d) l in record { answers = rw (h, b); leaves = rw (h, b) }
 
