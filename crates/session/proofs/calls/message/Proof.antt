@@ -54,69 +54,6 @@ finish c ended h = let k = c .before .before .before .before .before .before .be
 kept : (c : tie.Joined1) → length (c .if1 .out) ≡ length (c .before .before .before .before .before .before .before .before .args .out .now)
 kept c = ⊎-elim (λ w. rw (w .9) (w .5 .given)) (⊎-elim (λ w. rw (w .6) (w .4 .given)) (⊎-elim (λ w. rw (w .6) (w .4 .given)) (⊎-elim (λ w. rw (w .3)) (λ w. rw (w .1))))) (c .if1 .came)
 
-hear-requires : tie.Need-hear-requires
-hear-requires c κs = search needs
-
-refusal-requires : tie.Need-refusal-requires
-refusal-requires c κs = search needs
-
-common-requires : tie.Need-common-requires
-common-requires c κs = search needs
-
-write-response-requires : tie.Need-write-response-requires
-write-response-requires c κs = search needs
-
-mark-given-requires : tie.Need-mark-given-requires
-mark-given-requires c κs = search needs
-
-answered-requires : tie.Need-answered-requires
-answered-requires c κs = search needs
-
-configure-requires : tie.Need-configure-requires
-configure-requires c κs = search needs
-
-halt-requires : tie.Need-halt-requires
-halt-requires c κs = search needs
-
-refusal-requires-2 : tie.Need-refusal-requires-2
-refusal-requires-2 c κs = search needs
-
-has-requires : tie.Need-has-requires
-has-requires c κs = search needs
-
-uwb-state-requires : tie.Need-uwb-state-requires
-uwb-state-requires c κs = search needs
-
-has-requires-2 : tie.Need-has-requires-2
-has-requires-2 c κs = search needs
-
-nan-state-requires : tie.Need-nan-state-requires
-nan-state-requires c κs = search needs
-
-has-requires-3 : tie.Need-has-requires-3
-has-requires-3 c κs = search needs
-
-rssi-state-requires : tie.Need-rssi-state-requires
-rssi-state-requires c κs = search needs
-
-has-requires-4 : tie.Need-has-requires-4
-has-requires-4 c κs = search needs
-
-uwb-state-requires-2 : tie.Need-uwb-state-requires-2
-uwb-state-requires-2 c κs = search needs
-
-has-requires-5 : tie.Need-has-requires-5
-has-requires-5 c κs = search needs
-
-nan-state-requires-2 : tie.Need-nan-state-requires-2
-nan-state-requires-2 c κs = search needs
-
-has-requires-6 : tie.Need-has-requires-6
-has-requires-6 c κs = search needs
-
-rssi-state-requires-2 : tie.Need-rssi-state-requires-2
-rssi-state-requires-2 c κs = search needs
-
 same-length : tie.Need-same-length
 same-length c = kept (c .before .before .before .before .before .before .before .before .before .before .before .before .before)
 
@@ -133,27 +70,27 @@ pub message-spec : {M : Type 1} → statement M
 message-spec =
     tie.close
     (tie.spec
-    hear-requires
-    refusal-requires
-    common-requires
-    write-response-requires
-    mark-given-requires
-    answered-requires
-    configure-requires
-    halt-requires
-    refusal-requires-2
-    has-requires
-    uwb-state-requires
-    has-requires-2
-    nan-state-requires
-    has-requires-3
-    rssi-state-requires
-    has-requires-4
-    uwb-state-requires-2
-    has-requires-5
-    nan-state-requires-2
-    has-requires-6
-    rssi-state-requires-2
+    (search needs)
+    (search needs)
+    (search needs)
+    (search needs)
+    (search needs)
+    (search needs)
+    (search needs)
+    (search needs)
+    (search needs)
+    (search needs)
+    (search needs)
+    (search needs)
+    (search needs)
+    (search needs)
+    (search needs)
+    (search needs)
+    (search needs)
+    (search needs)
+    (search needs)
+    (search needs)
+    (search needs)
     same-length
     returns
     same-length-2

@@ -7,29 +7,8 @@ use borrow.Author.Needs.{needs}
 use Rattle.session.proofs.configuration.configure.Statement.{statement}
 use Rattle.session.proofs.configuration.configure.Tie as tie
 
-sets-uwb-requires : tie.Need-sets-uwb-requires
-sets-uwb-requires c κs = search needs
-
-sets-cs-requires : tie.Need-sets-cs-requires
-sets-cs-requires c κs = search needs
-
-sets-nan-requires : tie.Need-sets-nan-requires
-sets-nan-requires c κs = search needs
-
-sets-rssi-requires : tie.Need-sets-rssi-requires
-sets-rssi-requires c κs = search needs
-
-set-of-requires : tie.Need-set-of-requires
-set-of-requires c κs = search needs
-
 deliver-requires : tie.Need-deliver-requires
 deliver-requires c κs = rw (c .before .set-of .ensures) (bits-below ((c .before .before .before .before .before .sets-uwb .result) ∷ (c .before .before .before .before .sets-cs .result) ∷ (c .before .before .before .sets-nan .result) ∷ (c .before .before .sets-rssi .result) ∷ []))
-
-answered-requires : tie.Need-answered-requires
-answered-requires c κs = search needs
-
-same-length : tie.Need-same-length
-same-length c = search needs
 
 returns : tie.Need-returns
 returns c = let s = c .before .before .before .before .before .before .before .before .before .before .before .args .s in
@@ -40,12 +19,12 @@ pub configure-spec : {M : Type 1} → statement M
 configure-spec =
     tie.close
     (tie.spec
-    sets-uwb-requires
-    sets-cs-requires
-    sets-nan-requires
-    sets-rssi-requires
-    set-of-requires
+    (search needs)
+    (search needs)
+    (search needs)
+    (search needs)
+    (search needs)
     deliver-requires
-    answered-requires
-    same-length
+    (search needs)
+    (search needs)
     returns)

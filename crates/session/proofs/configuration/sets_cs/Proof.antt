@@ -5,15 +5,9 @@ use borrow.Author.Needs.{needs}
 use Rattle.session.proofs.configuration.sets_cs.Statement.{statement}
 use Rattle.session.proofs.configuration.sets_cs.Tie as tie
 
-both-have-requires : tie.Need-both-have-requires
-both-have-requires c κs = search needs
-
-within-cs-requires : tie.Need-within-cs-requires
-within-cs-requires c κs = search needs
-
 returns : tie.Need-returns
 unfolding setBy sets markIn
 returns c = simp (c .before .both-have .ensures, c .within-cs .ensures, and-assoc, and-true)
 
 pub sets-cs-spec : {M : Type 1} → statement M
-sets-cs-spec = tie.close (tie.spec both-have-requires within-cs-requires returns)
+sets-cs-spec = tie.close (tie.spec (search needs) (search needs) returns)

@@ -5,15 +5,9 @@ use borrow.Author.Needs.{needs}
 use Rattle.session.proofs.configuration.sets_nan.Statement.{statement}
 use Rattle.session.proofs.configuration.sets_nan.Tie as tie
 
-both-have-requires : tie.Need-both-have-requires
-both-have-requires c κs = search needs
-
-within-nan-requires : tie.Need-within-nan-requires
-within-nan-requires c κs = search needs
-
 returns : tie.Need-returns
 unfolding setBy sets markIn
 returns c = simp (c .before .both-have .ensures, c .within-nan .ensures, and-assoc, and-true)
 
 pub sets-nan-spec : {M : Type 1} → statement M
-sets-nan-spec = tie.close (tie.spec both-have-requires within-nan-requires returns)
+sets-nan-spec = tie.close (tie.spec (search needs) (search needs) returns)

@@ -5,15 +5,9 @@ use borrow.Author.Needs.{needs}
 use Rattle.session.proofs.configuration.sets_uwb.Statement.{statement}
 use Rattle.session.proofs.configuration.sets_uwb.Tie as tie
 
-both-have-requires : tie.Need-both-have-requires
-both-have-requires c κs = search needs
-
-within-uwb-requires : tie.Need-within-uwb-requires
-within-uwb-requires c κs = search needs
-
 returns : tie.Need-returns
 unfolding setBy sets markIn
 returns c = simp (c .before .before .both-have .ensures, c .before .within-uwb .ensures, and-assoc, Bool·not-not)
 
 pub sets-uwb-spec : {M : Type 1} → statement M
-sets-uwb-spec = tie.close (tie.spec both-have-requires within-uwb-requires returns)
+sets-uwb-spec = tie.close (tie.spec (search needs) (search needs) returns)

@@ -7,26 +7,8 @@ use borrow.Author.Needs.{needs}
 use Rattle.session.proofs.stop.halt.Statement.{statement}
 use Rattle.session.proofs.stop.halt.Tie as tie
 
-has-requires : tie.Need-has-requires
-has-requires c κs = search needs
-
-has-requires-2 : tie.Need-has-requires-2
-has-requires-2 c κs = search needs
-
-has-requires-3 : tie.Need-has-requires-3
-has-requires-3 c κs = search needs
-
-set-of-requires : tie.Need-set-of-requires
-set-of-requires c κs = search needs
-
 deliver-requires : tie.Need-deliver-requires
 deliver-requires c κs = rw (c .before .set-of .ensures, c .before .before .before .before .before .before .before .has .ensures, c .before .before .before .before .before .has2 .ensures, c .before .before .before .has3 .ensures, ended-set (c .before .before .before .before .before .before .before .before .before .args .s .profile) (c .before .before .before .before .before .before .before .before .before .args .set) (c .before .before .before .before .before .before .before .before .before .args .s)) (naming-below (endedBy sessionKeeps (c .before .before .before .before .before .before .before .before .before .args .s .profile) (c .before .before .before .before .before .before .before .before .before .args .set) (c .before .before .before .before .before .before .before .before .before .args .s)))
-
-answered-requires : tie.Need-answered-requires
-answered-requires c κs = search needs
-
-same-length : tie.Need-same-length
-same-length c = search needs
 
 returns : tie.Need-returns
 returns c = let s = c .before .before .before .before .before .before .before .before .before .before .before .before .before .args .s in
@@ -37,11 +19,11 @@ pub halt-spec : {M : Type 1} → statement M
 halt-spec =
     tie.close
     (tie.spec
-    has-requires
-    has-requires-2
-    has-requires-3
-    set-of-requires
+    (search needs)
+    (search needs)
+    (search needs)
+    (search needs)
     deliver-requires
-    answered-requires
-    same-length
+    (search needs)
+    (search needs)
     returns)
