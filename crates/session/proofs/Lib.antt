@@ -3,6 +3,7 @@ pub mod Simulation
 pub mod Lists
 pub mod Last
 pub mod Happened
+pub mod Sound
 pub mod InWords
 pub mod Reported
 pub mod Demand3

@@ -16,7 +16,7 @@ use Rattle.session.specs.declared.state.NanState.{NanState}
 use Rattle.session.specs.declared.state.RssiState.{RssiState}
 use Rattle.session.specs.declared.state.Session.{Session}
 use Rattle.codec.specs.Technology.{Technology, uwb, cs, nan, rssi, names}
-use Rattle.session.specs.Rules.{Call, message, advertisement, lent, Kind, request, configuration, stop, other, kindOf, octetsOf, validProfile, shows, Served, conclude, after, giveOut, configure, setBy, endedBy, halt, serve, call, answerTo, bufferAfter}
+use Rattle.session.specs.Rules.{Said, message, advertisement, Call, Kind, request, configuration, stop, kindOf, octetsOf, validProfile, shows, Served, conclude, after, setBy, endedBy, serve, respond, call, answerTo, bufferAfter}
 use Rattle.session.specs.Ledger.{Ledger, nothing, ledgerKeeps, ledgerCall, seenFrom, stateAfter}
 use Rattle.session.specs.Session.{yes, inForceIn, markIn, uwbPart, nanPart, rssiPart, sessionKeeps, sessionCall, Does, fresh}
 use Rattle.session.specs.Trace.{Event, seenOf, Ran, callsOf}
@@ -40,21 +40,31 @@ module _ (P : Session → Type 0) (give : (has : Technology → Bool) (s : Sessi
       go false = tt
 
   module _ (s : Session) (h : P s) where
-    served-keeps : (k : Kind) (r : Record) (b : List ℕ) → Of (serve sessionKeeps (s .profile) k r s b)
-    unfolding serve
-    served-keeps request r b = concluded b (giveOut sessionKeeps (s .profile) (names (r .set)) s) (give (shows (s .profile) (names (r .set))) s h)
-    served-keeps configuration r b = concluded b (configure sessionKeeps (s .profile) (r .set) (r .configuration) s) (put (setBy sessionKeeps (s .profile) (r .set) (r .configuration) s) (r .configuration) s h)
-    served-keeps stop r b = concluded b (halt sessionKeeps (s .profile) (r .set) s) (end (endedBy sessionKeeps (s .profile) (r .set) s) s h)
-    served-keeps other r b = tt
+    served-keeps : (k : Kind) (r : Record) → P (serve sessionKeeps (s .profile) k r s .state)
+    served-keeps request r = give (shows (s .profile) (names (r .set))) s h
+    served-keeps configuration r = put (setBy sessionKeeps (s .profile) (r .set) (r .configuration) s) (r .configuration) s h
+    served-keeps stop r = end (endedBy sessionKeeps (s .profile) (r .set) s) s h
+
+    respond-keeps : (x : Said) → Of (respond sessionKeeps (s .profile) s x)
+    unfolding respond
+    respond-keeps (message m) = go (reading m)
+      where
+        by-kind : (r : Record) (o : Checked Kind) → Of (andThen o λ k. accept (serve sessionKeeps (s .profile) k r s))
+        by-kind r (refuse x) = tt
+        by-kind r (accept k) = served-keeps k r
+
+        go : (o : Checked Record) → Of (andThen o λ r. andThen (kindOf (r .id)) λ k. accept (serve sessionKeeps (s .profile) k r s))
+        go (refuse x) = tt
+        go (accept r) = by-kind r (kindOf (r .id))
+    respond-keeps advertisement = give (shows (s .profile) (λ t. true)) s h
 
     call-keeps : (c : Call) → Of (call sessionKeeps (s .profile) s c)
     unfolding call
-    call-keeps (message m b) = go (reading m)
+    call-keeps c = go (respond sessionKeeps (s .profile) s (c .said)) (respond-keeps (c .said))
       where
-        go : (o : Checked Record) → Of (andThen o λ r. serve sessionKeeps (s .profile) (kindOf (r .id)) r s b)
-        go (refuse x) = tt
-        go (accept r) = served-keeps (kindOf (r .id)) r b
-    call-keeps (advertisement b) = concluded b (giveOut sessionKeeps (s .profile) (λ t. true) s) (give (shows (s .profile) (λ t. true)) s h)
+        go : (o : Checked (Served Session)) → Of o → Of (andThen o (conclude (c .lent)))
+        go (refuse x) k = tt
+        go (accept v) k = concluded (c .lent) v k
 
     after-keeps : (o : Checked (Served Session)) → Of o → P (after s o)
     after-keeps (refuse x) k = h
@@ -155,8 +165,8 @@ module _ (p : Profile) (v : validProfile p ≡ true) where
     next-ledger : ledgerOf (x .session) ≡ after (ledgerOf s) (ledgerCall p (ledgerOf s) (x .given))
     next-ledger = ap ledgerOf (g .session) ∙ (sym (after-through s (sessionCall s (x .given))) ∙ ap (λ (o : Checked (Served Ledger)). after (ledgerOf s) o) (same-call p v s (h .profile) (x .given)))
 
-    seen : seenOf x ≡ record { answer = answerTo (ledgerCall p (ledgerOf s) (x .given)); buffer = bufferAfter (ledgerCall p (ledgerOf s) (x .given)) (lent (x .given)) }
-    seen = let o = sessionCall s (x .given) in rw (← same-call p v s (h .profile) (x .given), answer-through s o, buffer-through s o (lent (x .given)), ← g .answer, ← g .buffer)
+    seen : seenOf x ≡ record { answer = answerTo (ledgerCall p (ledgerOf s) (x .given)); buffer = bufferAfter (ledgerCall p (ledgerOf s) (x .given)) (x .given .lent) }
+    seen = let o = sessionCall s (x .given) in rw (← same-call p v s (h .profile) (x .given), answer-through s o, buffer-through s o (x .given .lent), ← g .answer, ← g .buffer)
 
   pub answers-kept : (events : List Event) (s e : Session) → Tidy p s → Ran s events e → map seenOf events ≡ seenFrom (ledgerCall p) (ledgerOf s) (callsOf events)
   answers-kept [] s e h r = refl

@@ -19,7 +19,7 @@ use Rattle.session.specs.declared.state.NanState.{NanState}
 use Rattle.session.specs.declared.state.RssiState.{RssiState}
 use Rattle.session.specs.declared.state.Session.{Session}
 use Rattle.codec.specs.Technology.{Technology, uwb, cs, nan, rssi, names}
-use Rattle.session.specs.Rules.{Call, message, advertisement, Kind, request, configuration, stop, other, kindOf, octetsOf, sets, Served, conclude, Keeps, giveOut, setBy, endedBy, serve, call}
+use Rattle.session.specs.Rules.{Said, message, advertisement, Call, Kind, request, configuration, stop, kindOf, octetsOf, sets, Served, conclude, Keeps, giveOut, setBy, endedBy, serve, respond, call}
 use Rattle.session.specs.Ledger.{Ledger, isSome, ledgerKeeps}
 use Rattle.session.specs.Session.{yes, inForceIn, rangingIn, markIn, uwbPart, nanPart, rssiPart, sessionKeeps}
 
@@ -45,9 +45,12 @@ module _ {S T : Type 0} (f : S → T) where
       go true = refl
       go false = refl
 
-  module _ (K : Keeps S) (M : Keeps T) (F : Follows K M f) (p : Profile) (s : S) (b : List ℕ) where
-    give-through : (wanted : Technology → Bool) → through (conclude b (giveOut K p wanted s)) ≡ conclude b (giveOut M p wanted (f s))
-    give-through wanted = through-conclude b _ ∙ rw (F .give)
+  module _ (K : Keeps S) (M : Keeps T) (F : Follows K M f) (p : Profile) (s : S) where
+    abbrev carried : Served S → Served T
+    carried v = record { state = f (v .state); reply = v .reply; set = v .set; stopped = v .stopped }
+
+    give-through : (wanted : Technology → Bool) → carried (giveOut K p wanted s) ≡ giveOut M p wanted (f s)
+    give-through wanted = rw (F .give)
 
     set-same : (set : ℕ) (c : Configuration) → setBy K p set c s ≡ setBy M p set c (f s)
     unfolding setBy
@@ -57,21 +60,31 @@ module _ {S T : Type 0} (f : S → T) where
     unfolding endedBy
     ended-same set = fun-ext (λ t. ap (λ (x : Bool). names set t && x) (F .ranging s t))
 
-    serve-through : (k : Kind) (r : Record) → through (serve K p k r s b) ≡ serve M p k r (f s) b
-    unfolding serve
+    serve-through : (k : Kind) (r : Record) → carried (serve K p k r s) ≡ serve M p k r (f s)
     serve-through request r = give-through (names (r .set))
-    serve-through configuration r = through-conclude b _ ∙ rw (F .put, set-same (r .set) (r .configuration))
-    serve-through stop r = through-conclude b _ ∙ rw (F .stop, ended-same (r .set))
-    serve-through other r = refl
+    serve-through configuration r = rw (F .put, set-same (r .set) (r .configuration))
+    serve-through stop r = rw (F .stop, ended-same (r .set))
 
-  pub call-through : (K : Keeps S) (M : Keeps T) → Follows K M f → (p : Profile) (s : S) (c : Call) → through (call K p s c) ≡ call M p (f s) c
-  unfolding call
-  call-through K M F p s (message m b) = go (reading m)
-    where
-      go : (o : Checked Record) → through (andThen o λ r. serve K p (kindOf (r .id)) r s b) ≡ (andThen o λ r. serve M p (kindOf (r .id)) r (f s) b)
-      go (refuse x) = refl
-      go (accept r) = serve-through K M F p s b (kindOf (r .id)) r
-  call-through K M F p s (advertisement b) = give-through K M F p s b (λ t. true)
+    respond-through : (x : Said) → through (respond K p s x) ≡ respond M p (f s) x
+    unfolding respond
+    respond-through (message m) = go (reading m)
+      where
+        by-kind : (r : Record) (o : Checked Kind) → through (andThen o λ k. accept (serve K p k r s)) ≡ (andThen o λ k. accept (serve M p k r (f s)))
+        by-kind r (refuse x) = refl
+        by-kind r (accept k) = ap (λ (v : Served T). accept v) (serve-through k r)
+
+        go : (o : Checked Record) → through (andThen o λ r. andThen (kindOf (r .id)) λ k. accept (serve K p k r s)) ≡ (andThen o λ r. andThen (kindOf (r .id)) λ k. accept (serve M p k r (f s)))
+        go (refuse x) = refl
+        go (accept r) = by-kind r (kindOf (r .id))
+    respond-through advertisement = ap (λ (v : Served T). accept v) (give-through (λ t. true))
+
+    pub call-through : (c : Call) → through (call K p s c) ≡ call M p (f s) c
+    unfolding call
+    call-through c = go (respond K p s (c .said)) ∙ ap (λ (o : Checked (Served T)). andThen o (conclude (c .lent))) (respond-through (c .said))
+      where
+        go : (o : Checked (Served S)) → through (andThen o (conclude (c .lent))) ≡ andThen (through o) (conclude (c .lent))
+        go (refuse x) = refl
+        go (accept v) = through-conclude (c .lent) v
 
 -- ---- the session as a ledger
 

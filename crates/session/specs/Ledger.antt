@@ -9,7 +9,7 @@ use Rattle.session.specs.declared.state.Answer.{Answer}
 use Rattle.codec.specs.Technology.{Technology}
 use Rattle.codec.specs.Records.{Settings, settingsIn}
 use Rattle.session.specs.Within.{ranges, bars}
-use Rattle.session.specs.Rules.{Call, lent, Served, after, Keeps, call, answerTo, bufferAfter}
+use Rattle.session.specs.Rules.{Call, Served, after, Keeps, call, answerTo, bufferAfter}
 
 -- what the ledger holds of a technology: the settings in force, or none, and the mark, which only UWB ever gets
 pub record Cell (t : Technology) : Type 0 where
@@ -51,7 +51,7 @@ pub record Seen : Type 0 where
 module _ {S : Type 0} (step : S → Call → Checked (Served S)) where
   abbrev pub seenFrom : S → List Call → List Seen
   seenFrom s [] = []
-  seenFrom s (c ∷ calls) = record { answer = answerTo (step s c); buffer = bufferAfter (step s c) (lent c) } ∷ seenFrom (after s (step s c)) calls
+  seenFrom s (c ∷ calls) = record { answer = answerTo (step s c); buffer = bufferAfter (step s c) (c .lent) } ∷ seenFrom (after s (step s c)) calls
 
   abbrev pub stateAfter : S → List Call → S
   stateAfter s [] = s

@@ -30,21 +30,23 @@ explicit replies = not (eqb replies 2)
 
 -- ---- calls
 
--- a message's octets or an advertisement, each with the contents of the lent buffer
-pub data Call : Type 0 where
-  message : List ℕ → List ℕ → Call
-  advertisement : List ℕ → Call
+-- what is said to the tag: a message's octets, or that it should advertise
+pub data Said : Type 0 where
+  message : List ℕ → Said
+  advertisement : Said
 
-abbrev pub lent : Call → List ℕ
-lent (message m b) = b
-lent (advertisement b) = b
+-- a call: what is said, and the contents of the lent buffer
+pub record Call : Type 0 where
+  pub said : Said
+  pub lent : List ℕ
 
 -- what a message is to the tag
 pub data Kind : Type 0 where
-  request configuration stop other : Kind
+  request configuration stop : Kind
 
-abbrev pub kindOf : ℕ → Kind
-kindOf id = cond (eqb id 0) request (cond (eqb id 2) configuration (cond (eqb id 6) stop other))
+-- by its ID; 10 for messages 1, 3 and 7
+abbrev pub kindOf : ℕ → Checked Kind
+kindOf id = cond (eqb id 0) (accept request) (cond (eqb id 2) (accept configuration) (cond (eqb id 6) (accept stop) (refuse notForTag)))
 
 -- ---- replies
 
@@ -135,16 +137,20 @@ module _ {S : Type 0} (K : Keeps S) (p : Profile) where
     stopped = naming (endedBy set s);
   }
 
-  unfoldable pub serve : Kind → Record → S → List ℕ → Checked (Served S)
-  serve request r s b = conclude b (giveOut (names (r .set)) s)
-  serve configuration r s b = conclude b (configure (r .set) (r .configuration) s)
-  serve stop r s b = conclude b (halt (r .set) s)
-  serve other r s b = refuse notForTag
+  -- what a message gives, by its kind
+  abbrev pub serve : Kind → Record → S → Served S
+  serve request r s = giveOut (names (r .set)) s
+  serve configuration r s = configure (r .set) (r .configuration) s
+  serve stop r s = halt (r .set) s
 
-  -- the reader's refusals come first; an advertisement is a Request for the whole profile
+  -- the reader's refusals come first, then 10; an advertisement is a Request for the whole profile
+  unfoldable pub respond : S → Said → Checked (Served S)
+  respond s (message m) = andThen (reading m) λ r. andThen (kindOf (r .id)) λ k. accept (serve k r s)
+  respond s advertisement = accept (giveOut (λ t. true) s)
+
+  -- 11 comes last
   unfoldable pub call : S → Call → Checked (Served S)
-  call s (message m b) = andThen (reading m) λ r. serve (kindOf (r .id)) r s b
-  call s (advertisement b) = conclude b (giveOut (λ t. true) s)
+  call s c = andThen (respond s (c .said)) (conclude (c .lent))
 
 -- ---- what a caller sees
 

@@ -17,11 +17,10 @@ use Rattle.session.specs.declared.state.NanState.{NanState}
 use Rattle.session.specs.declared.state.RssiState.{RssiState}
 use Rattle.session.specs.declared.state.Session.{Session}
 use Rattle.session.specs.declared.state.Answer.{Answer}
-use Rattle.session.specs.declared.state.Step.{Step}
 use Rattle.session.specs.declared.state.Started.{Started}
 use Rattle.codec.specs.Technology.{Technology, uwb, cs, nan, rssi}
 use Rattle.codec.specs.Records.{Settings, capabilities, configurations, blank}
-use Rattle.session.specs.Rules.{Call, lent, validProfile, Served, Keeps, call, after, answerTo, bufferAfter}
+use Rattle.session.specs.Rules.{Call, validProfile, Served, Keeps, call, after, answerTo, bufferAfter}
 
 -- a flag is a number: 0 no, anything else yes
 abbrev pub yes : ℕ → Bool
@@ -85,15 +84,15 @@ sessionKeeps = record {
 unfoldable pub sessionCall : Session → Call → Checked (Served Session)
 sessionCall s c = demand (validProfile (s .profile)) notValid (call sessionKeeps (s .profile) s c)
 
--- what a call that leads to `o` does: the session and the answer that it returns, and the buffer before and after
-pub record Gives (s : Session) (o : Checked (Served Session)) (before : List ℕ) (r : Step) (e : List ℕ) : Type 0 where
-  pub session : r .session ≡ after s o
-  pub answer : r .answer ≡ answerTo o
-  pub buffer : e ≡ bufferAfter o before
+-- what a call that leads to `o` gives: its answer, the session that it returns or leaves, and its buffer before and after
+pub record Gives (s : Session) (o : Checked (Served Session)) (before : List ℕ) (a : Answer) (next : Session) (left : List ℕ) : Type 0 where
+  pub answer : a ≡ answerTo o
+  pub session : next ≡ after s o
+  pub buffer : left ≡ bufferAfter o before
 
--- what a call does that gets the session s: its answer, the session that it returns or leaves, and what it leaves in its buffer
+-- what a call does that gets the session s
 abbrev pub Does : Session → Call → Answer → Session → List ℕ → Type 0
-Does s c answer next left = Gives s (sessionCall s c) (lent c) (record { session = next; answer = answer }) left
+Does s c a next left = Gives s (sessionCall s c) (c .lent) a next left
 
 -- ---- the start
 

@@ -2,27 +2,34 @@ use lib.ListN.{length}
 use native.Mathlib.Omega.{arith}
 use mathlib.Core.Bool.{Bool, true, false}
 use mathlib.Core.Logic.{⊎-elim}
-use mathlib.Core.Path.{_≡_, _∙_, sym, subst}
+use mathlib.Core.Path.{_≡_, _∙_, sym, ap, subst}
 use Rattle.codec.specs.Technology.{uwb, nan, rssi, names}
-use Rattle.session.specs.Rules.{message}
+use Rattle.session.specs.Rules.{message, request, configuration, stop, kindOf}
+use Rattle.session.specs.declared.state.Session.{Session}
 use Rattle.session.specs.Session.{sessionKeeps, sessionCall, Gives}
-use Rattle.session.proofs.Steps.{alone, not-heard, heard-valid, heard-unset, ends, a-request, a-configuration, a-stop, another, given, follow, follow-none, follow-configure, follow-halt, with-session}
+use Rattle.session.proofs.Steps.{alone, not-heard, was-heard, heard-unset, ends, a-message, another, given, follow, follow-none, follow-configure, follow-halt, with-session}
 use borrow.Author.Needs.{needs}
 use Rattle.session.proofs.calls.message.Statement.{statement}
 use Rattle.session.proofs.calls.message.Tie as tie
 
+-- what the call gives once its message is read, served and answered
+Answered : tie.Joined1 → Session → Type 0
+Answered c next = let a = c .before .before .before .before .before .before .before .before .args in
+    Gives (a .s) (sessionCall (a .s) (record { said = message (a .octets .now); lent = a .out .now })) (a .out .now) (c .if1 .answer) next (c .if1 .out)
+
 -- what the kinds of message answer
-by-kind : (c : tie.Joined1) → let a = c .before .before .before .before .before .before .before .before .args in let h = c .before .before .before .before .hear in
-    Gives (a .s) (sessionCall (a .s) (message (a .octets .now) (a .out .now))) (a .out .now) (record { session = follow (h .result .configuration) (c .if1 .answer) (c .if1 .session); answer = c .if1 .answer }) (c .if1 .out)
-by-kind c = let a = c .before .before .before .before .before .before .before .before .args in let h = c .before .before .before .before .hear in ⊎-elim
-    (λ w. rw (w .9, w .10, w .11, w .8 .ensures) (with-session (follow-none (h .result .configuration) (w .4 .result) _) (a-request (a .s) (a .octets .now) (a .out .now) (h .ensures) (w .0 .taken) (w .1 .keys1) (given (a .s) (h .result .set) (w .2 .ensures) (w .7 .ensures) (heard-valid (a .s) (a .octets .now) (a .out .now) (h .ensures) (w .0 .taken)) (w .4 .ensures)))))
+by-kind : (c : tie.Joined1) → Answered c (follow (c .before .before .before .before .hear .result .configuration) (c .if1 .answer) (c .if1 .session))
+unfolding Answered
+by-kind c = let a = c .before .before .before .before .before .before .before .before .args in let h = c .before .before .before .before .hear in
+    let s = a .s in let m = a .octets .now in let b = a .out .now in ⊎-elim
+    (λ w. rw (w .9, w .10, w .11, w .8 .ensures) (with-session (follow-none (h .result .configuration) (w .4 .result) _) (a-message s m b (h .ensures) (w .0 .taken) {k = request} (ap kindOf (w .1 .keys1)) (given s (h .result .set) (w .2 .ensures) (w .7 .ensures) (was-heard s m b (h .ensures) (w .0 .taken) .0) (w .4 .ensures)))))
     (⊎-elim
-    (λ w. rw (w .6, w .7, w .8) (a-configuration (a .s) (a .octets .now) (a .out .now) (h .ensures) (w .0 .taken) (w .1 .keys2) (record { session = rw (w .3 .ensures .answer) (follow-configure (a .s) (h .result .set) (a .out .now) (h .result .configuration)); answer = w .3 .ensures .answer; buffer = w .3 .ensures .buffer })))
+    (λ w. rw (w .6, w .7, w .8) (a-message s m b (h .ensures) (w .0 .taken) {k = configuration} (ap kindOf (w .1 .keys2)) (record { answer = w .3 .ensures .answer; session = rw (w .3 .ensures .answer) (follow-configure s (h .result .set) b (h .result .configuration)); buffer = w .3 .ensures .buffer })))
     (⊎-elim
-    (λ w. rw (w .6, w .7, w .8) (a-stop (a .s) (a .octets .now) (a .out .now) (h .ensures) (w .0 .taken) (w .1 .keys3) (record { session = rw (w .3 .ensures .answer) (follow-halt (a .s) (h .result .set) (a .out .now) (heard-unset (a .s) (a .octets .now) (a .out .now) (h .ensures) λ e. omega (arith, w .1 .keys3, e))); answer = w .3 .ensures .answer; buffer = w .3 .ensures .buffer })))
+    (λ w. rw (w .6, w .7, w .8) (a-message s m b (h .ensures) (w .0 .taken) {k = stop} (ap kindOf (w .1 .keys3)) (record { answer = w .3 .ensures .answer; session = rw (w .3 .ensures .answer) (follow-halt s (h .result .set) b (heard-unset s m b (h .ensures) λ e. omega (arith, w .1 .keys3, e))); buffer = w .3 .ensures .buffer })))
     (⊎-elim
-    (λ w. let no = w .1 .rest in rw (w .3, w .4, w .5, w .2 .ensures) (another (a .s) (a .octets .now) (a .out .now) (h .ensures) (w .0 .taken) (no .0 .0 .1) (no .0 .1) (no .1)))
-    (λ w. rw (w .1, w .2, w .3, c .before .before .refusal .ensures) (not-heard (a .s) (a .octets .now) (a .out .now) (h .ensures) (w .0 .left))))))
+    (λ w. let no = w .1 .rest in rw (w .3, w .4, w .5, w .2 .ensures) (another s m b (h .ensures) (w .0 .taken) (no .0 .0 .1) (no .0 .1) (no .1)))
+    (λ w. rw (w .1, w .2, w .3, c .before .before .refusal .ensures) (not-heard s m b (h .ensures) (w .0 .left))))))
     (c .if1 .came)
 
 -- what the answer names is set
@@ -46,8 +53,9 @@ all-followed : (c : tie.Joined6) → let k = c .before .before .before .before .
     ends (alone rssi (names (k .if1 .answer .stopped) rssi)) (k .before .before .before .before .hear .result .configuration) (c .if6 .session) ≡ follow (k .before .before .before .before .hear .result .configuration) (k .if1 .answer) (k .if1 .session)
 all-followed c = rw (stop-nan c, stop-uwb (c .before .before), set-rssi (c .before .before .before .before), set-nan (c .before .before .before .before .before .before), set-uwb (c .before .before .before .before .before .before .before .before))
 
-finish : (c : tie.Joined6) (ended : Bool) → let k = c .before .before .before .before .before .before .before .before .before .before in let a = k .before .before .before .before .before .before .before .before .args in names (k .if1 .answer .stopped) rssi ≡ ended
-    → Gives (a .s) (sessionCall (a .s) (message (a .octets .now) (a .out .now))) (a .out .now) (record { session = ends (alone rssi ended) (k .before .before .before .before .hear .result .configuration) (c .if6 .session); answer = k .if1 .answer }) (k .if1 .out)
+finish : (c : tie.Joined6) (ended : Bool) → let k = c .before .before .before .before .before .before .before .before .before .before in names (k .if1 .answer .stopped) rssi ≡ ended
+    → Answered k (ends (alone rssi ended) (k .before .before .before .before .hear .result .configuration) (c .if6 .session))
+unfolding Answered
 finish c ended h = let k = c .before .before .before .before .before .before .before .before .before .before in
     with-session (subst (λ (x : Bool). ends (alone rssi x) (k .before .before .before .before .hear .result .configuration) (c .if6 .session) ≡ follow (k .before .before .before .before .hear .result .configuration) (k .if1 .answer) (k .if1 .session)) h (all-followed c)) (by-kind k)
 
@@ -58,12 +66,14 @@ same-length : tie.Need-same-length
 same-length c = kept (c .before .before .before .before .before .before .before .before .before .before .before .before .before)
 
 returns : tie.Need-returns
+unfolding Answered
 returns c = rw (c .rssi-state2 .ensures) (finish (c .before .before .before) true (sym (c .before .before .has6 .ensures) ∙ c .before .if7 .taken))
 
 same-length-2 : tie.Need-same-length-2
 same-length-2 c = kept (c .before .before .before .before .before .before .before .before .before .before .before .before)
 
 returns-2 : tie.Need-returns-2
+unfolding Answered
 returns-2 c = finish (c .before .before) false (sym (c .before .has6 .ensures) ∙ c .if7 .left)
 
 pub message-spec : {M : Type 1} → statement M
