@@ -19,7 +19,7 @@ use Rattle.codec.proofs.Outcomes.{by-bool}
 use Rattle.codec.proofs.Pieces.{normal-set}
 use Rattle.session.specs.declared.state.Profile.{Profile}
 use Rattle.session.specs.Rules.{Said, message, advertisement, Call, Kind, request, configuration, stop, kindOf, explicit, octetsOf, capabilityReply, Served, conclude, giveOut, serve, respond, call}
-use Rattle.session.specs.Ledger.{Ledger, ledgerKeeps, ledgerCall}
+use Rattle.session.specs.Ledger.{Ledger, onLedger, ledgerCall}
 use Rattle.session.specs.History.{replyLength, Accepted, Advertised, Counts}
 
 -- ---- a call is accepted as one thing at the most
@@ -56,17 +56,17 @@ explicit-length true m set = ap length (normal-set m set)
 explicit-length false m set = refl
 
 module _ (p : Profile) (l : Ledger) where
-  reply-length : (k : Kind) (r : Record) → length (octetsOf (serve ledgerKeeps p k r l .reply)) ≡ replyLength p k r
+  reply-length : (k : Kind) (r : Record) → length (octetsOf (serve onLedger p k r l .reply)) ≡ replyLength p k r
   reply-length request r = refl
   reply-length configuration r = explicit-length (explicit (p .replies)) SetMessage.ConfigurationResponse _
   reply-length stop r = explicit-length (explicit (p .replies)) SetMessage.StopResponse _
 
   module _ {c : Call} where
-    pub accepted-gives : {k : Kind} {r : Record} → Accepted p k c r → ledgerCall p l c ≡ accept (serve ledgerKeeps p k r l)
+    pub accepted-gives : {k : Kind} {r : Record} → Accepted p k c r → ledgerCall p l c ≡ accept (serve onLedger p k r l)
     unfolding call respond
     accepted-gives {k} {r} a = rw (a .says, a .reads, a .kind) (fits (c .lent) _ (rw (reply-length k r) (a .room)))
 
-    pub advertised-gives : Advertised p c → ledgerCall p l c ≡ accept (giveOut ledgerKeeps p (λ t. true) l)
+    pub advertised-gives : Advertised p c → ledgerCall p l c ≡ accept (giveOut onLedger p (λ t. true) l)
     unfolding call respond
     advertised-gives d = rw (d .is) (fits (c .lent) _ (d .room))
 
@@ -77,26 +77,26 @@ module _ (p : Profile) (l : Ledger) where
 -- ---- what happens
 
 pub data Happened (p : Profile) (l : Ledger) (c : Call) : Type 0 where
-  refused : (x : Refusal) → ledgerCall p l c ≡ refuse x → Happened p l c
-  accepted : (k : Kind) (r : Record) → Accepted p k c r → Happened p l c
+  declined : (x : Refusal) → ledgerCall p l c ≡ refuse x → Happened p l c
+  served : (k : Kind) (r : Record) → Accepted p k c r → Happened p l c
   advertised : Advertised p c → Happened p l c
 
 module _ (p : Profile) (l : Ledger) (c : Call) where
   by-room : (n : ℕ) → (n ≤ length (c .lent) → Happened p l c) → (length (c .lent) < n → ledgerCall p l c ≡ refuse bufferTooShort) → Happened p l c
-  by-room n f g = by-bool (leb n (length (c .lent))) (λ y. f (leb-true n _ y)) (λ f. refused bufferTooShort (g (leb-false n _ f)))
+  by-room n f g = by-bool (leb n (length (c .lent))) (λ y. f (leb-true n _ y)) (λ f. declined bufferTooShort (g (leb-false n _ f)))
 
   pub happened : Happened p l c
   unfolding call respond
   happened = by-said (c .said) refl
     where
       by-kind : (m : List ℕ) (r : Record) → c .said ≡ message m → reading m ≡ accept r → (o : Checked Kind) → kindOf (r .id) ≡ o → Happened p l c
-      by-kind m r e q (refuse x) i = refused x (rw (e, q, i))
+      by-kind m r e q (refuse x) i = declined x (rw (e, q, i))
       by-kind m r e q (accept k) i = by-room (replyLength p k r)
-          (λ y. accepted k r (record { octets = m; says = e; reads = q; kind = i; room = y }))
+          (λ y. served k r (record { octets = m; says = e; reads = q; kind = i; room = y }))
           (λ n. rw (e, q, i) (fits-not (c .lent) _ (rw (reply-length p l k r) n)))
 
       by-reading : (m : List ℕ) → c .said ≡ message m → (o : Checked Record) → reading m ≡ o → Happened p l c
-      by-reading m e (refuse x) q = refused x (rw (e, q))
+      by-reading m e (refuse x) q = declined x (rw (e, q))
       by-reading m e (accept r) q = by-kind m r e q (kindOf (r .id)) refl
 
       by-said : (x : Said) → c .said ≡ x → Happened p l c

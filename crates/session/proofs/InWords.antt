@@ -17,14 +17,14 @@ use Rattle.codec.proofs.Outcomes.{by-bool, and-true}
 use Rattle.session.specs.declared.state.Profile.{Profile}
 use Rattle.codec.specs.Technology.{Technology, uwb, cs, nan, rssi, technologyId, naming, names}
 use Rattle.codec.specs.Records.{Settings, settingsIn, capabilityIn, only}
-use Rattle.session.specs.Within.{ranges, bars, within}
-use Rattle.session.specs.Rules.{Call, Kind, request, configuration, stop, Served, after, shows, capabilityReply, giveOut, sets, setBy, endedBy}
-use Rattle.session.specs.Ledger.{Ledger, nothing, isSome, ledgerKeeps, ledgerCall, stateAfter}
+use Rattle.session.specs.Within.{ranges, bars, withinProfile}
+use Rattle.session.specs.Rules.{Call, Kind, request, configuration, stop, Served, after, shows, capabilityReply, giveOut, eligible, setBy, endedBy}
+use Rattle.session.specs.Ledger.{Ledger, nothing, isSome, onLedger, ledgerCall, stateAfter}
 use Rattle.session.specs.History.{Account, Accepted, Counts, Stops, GivesOut, inReply, inAdvertisement, Never, Ends, Barred, Sets, LastSet, Words}
 use Rattle.session.specs.Demand3.{held}
 use Rattle.codec.proofs.SetLaws.{names-naming}
 use Rattle.session.proofs.Last.{Turn, puts, drops, leaves, stays, by-history}
-use Rattle.session.proofs.Happened.{Happened, refused, accepted, advertised, happened, number, same-content, same-kind, no-advertisement, accepted-gives, advertised-gives, refused-not}
+use Rattle.session.proofs.Happened.{Happened, declined, served, advertised, happened, number, same-content, same-kind, no-advertisement, accepted-gives, advertised-gives, refused-not}
 use Rattle.session.proofs.Sound.{sound}
 
 pub both : {a b : Bool} → a ≡ true → b ≡ true → (a && b) ≡ true
@@ -111,21 +111,21 @@ module _ (p : Profile) where
         unfolding endedBy
         put-mark u e = marked (accepted-gives p l (e .stops .accepted)) ∙ rw (barring, e .stops .named, e .ranged, or-true (l t .mark))
 
-        given : (wanted : Technology → Bool) → ledgerCall p l c ≡ accept (giveOut ledgerKeeps p wanted l) → (shows p wanted t ≡ true → GivesOut p t c) → (GivesOut p t c → shows p wanted t ≡ true) → (Ends p InForce t before c → ⊥) → Turn mark Puts (GivesOut p t) before c
+        given : (wanted : Technology → Bool) → ledgerCall p l c ≡ accept (giveOut onLedger p wanted l) → (shows p wanted t ≡ true → GivesOut p t c) → (GivesOut p t c → shows p wanted t ≡ true) → (Ends p InForce t before c → ⊥) → Turn mark Puts (GivesOut p t) before c
         given wanted e to from un = by-bool (shows p wanted t)
             (λ y. drops (to y) (marked e ∙ rw (y, and-false (l t .mark))))
             (λ n. leaves (λ g. clash (from g) n) (λ u. un) (marked e ∙ rw (n, Bool·and-true (l t .mark))))
 
         turn-mark : Happened p l c → Turn mark Puts (GivesOut p t) before c
         unfolding endedBy
-        turn-mark (refused x e) = leaves (λ g. refused-not p l e (given-counts g)) (λ u h. refused-not p l e (inl (stop, (_, h .stops .accepted)))) (marked e)
-        turn-mark (accepted request r a) = given (names (r .set)) (accepted-gives p l a) (λ y. inReply r a (reply-holds p (names (r .set)) t .1 y)) shown (λ h. omega (arith, same-kind a (h .stops .accepted)))
+        turn-mark (declined x e) = leaves (λ g. refused-not p l e (given-counts g)) (λ u h. refused-not p l e (inl (stop, (_, h .stops .accepted)))) (marked e)
+        turn-mark (served request r a) = given (names (r .set)) (accepted-gives p l a) (λ y. inReply r a (reply-holds p (names (r .set)) t .1 y)) shown (λ h. omega (arith, same-kind a (h .stops .accepted)))
           where
             shown : GivesOut p t c → shows p (names (r .set)) t ≡ true
             shown (inReply q b h) = ap (λ (x : Record). shows p (names (x .set)) t) (same-content a b) ∙ reply-holds p (names (q .set)) t .0 h
             shown (inAdvertisement d h) = absurd (no-advertisement d a)
-        turn-mark (accepted configuration r a) = leaves (none-given a (λ e. omega (arith, e))) (λ u h. omega (arith, same-kind a (h .stops .accepted))) (marked (accepted-gives p l a))
-        turn-mark (accepted stop r a) = by-bool (names (r .set) t && isSome (l t .inForce))
+        turn-mark (served configuration r a) = leaves (none-given a (λ e. omega (arith, e))) (λ u h. omega (arith, same-kind a (h .stops .accepted))) (marked (accepted-gives p l a))
+        turn-mark (served stop r a) = by-bool (names (r .set) t && isSome (l t .inForce))
             (λ y.
             let w = and-true (names (r .set) t) (isSome (l t .inForce)) y in
             some-of (l t .inForce) (w .1) (λ x q. puts tt (record { stops = record { content = r; accepted = a; named = w .0 }; settings = x; ranged = q })))
@@ -160,19 +160,19 @@ module _ (p : Profile) where
 
     -- an accepted Configuration sets it exactly if the rules say so
     module _ (before : List Call) (c : Call) (r : Record) (a : Accepted p configuration c r) where
-      pub rule : (x : Settings t) → Sets p InForce t before c x → setBy ledgerKeeps p (r .set) (r .configuration) (held p before) t ≡ true
-      unfolding setBy sets
+      pub rule : (x : Settings t) → Sets p InForce t before c x → setBy onLedger p (r .set) (r .configuration) (held p before) t ≡ true
+      unfolding setBy eligible
       rule x h =
           let q = sym (same-content a (h .accepted)) in
-          subst (λ (y : Record). (names (y .set) t && (names (p .set) t && (within t (capabilityIn (p .capability) t) (settingsIn (y .configuration) t) && not (held p before t .mark)))) ≡ true) q
+          subst (λ (y : Record). (names (y .set) t && (names (p .set) t && (withinProfile t (capabilityIn (p .capability) t) (settingsIn (y .configuration) t) && not (held p before t .mark)))) ≡ true) q
           (both (h .named) (both (h .has) (both (h .fit) (rw (unmarked before (h .free))))))
 
-      pub ruled : setBy ledgerKeeps p (r .set) (r .configuration) (held p before) t ≡ true → Sets p InForce t before c (settingsIn (r .configuration) t)
-      unfolding setBy sets
+      pub ruled : setBy onLedger p (r .set) (r .configuration) (held p before) t ≡ true → Sets p InForce t before c (settingsIn (r .configuration) t)
+      unfolding setBy eligible
       ruled h =
           let u = and-true (names (r .set) t) _ h in
           let v = and-true (names (p .set) t) _ (u .1) in
-          let w = and-true (within t (capabilityIn (p .capability) t) (settingsIn (r .configuration) t)) (not (held p before t .mark)) (v .1) in
+          let w = and-true (withinProfile t (capabilityIn (p .capability) t) (settingsIn (r .configuration) t)) (not (held p before t .mark)) (v .1) in
           record { content = r; accepted = a; named = u .0; has = v .0; fit = w .0; free = λ y b. clash (barred-marked y before b) (not-true (held p before t .mark) (w .1)); settings = refl }
 
     -- ---- the settings in force, of a technology that the tag ranges with
@@ -193,12 +193,12 @@ module _ (p : Profile) where
 
         turn-force : Happened p k c → Turn force (Sets p InForce t) (Stops p t) before c
         unfolding endedBy
-        turn-force (refused x e) = leaves (λ s. refused-not p k e (inl (stop, (_, s .accepted)))) (λ x s. refused-not p k e (inl (configuration, (_, s .accepted)))) (forced e)
-        turn-force (accepted request r a) = leaves (λ s. omega (arith, same-kind a (s .accepted))) (λ x s. omega (arith, same-kind a (s .accepted))) (forced (accepted-gives p k a))
-        turn-force (accepted configuration r a) = by-bool (setBy ledgerKeeps p (r .set) (r .configuration) k t)
+        turn-force (declined x e) = leaves (λ s. refused-not p k e (inl (stop, (_, s .accepted)))) (λ x s. refused-not p k e (inl (configuration, (_, s .accepted)))) (forced e)
+        turn-force (served request r a) = leaves (λ s. omega (arith, same-kind a (s .accepted))) (λ x s. omega (arith, same-kind a (s .accepted))) (forced (accepted-gives p k a))
+        turn-force (served configuration r a) = by-bool (setBy onLedger p (r .set) (r .configuration) k t)
             (λ y. puts (settingsIn (r .configuration) t) (ruled before c r a y))
             (λ n. leaves (λ s. omega (arith, same-kind a (s .accepted))) (λ x s. clash (rule before c r a x s) n) (forced (accepted-gives p k a) ∙ rw (ranging, n)))
-        turn-force (accepted stop r a) = by-bool (names (r .set) t)
+        turn-force (served stop r a) = by-bool (names (r .set) t)
             (λ y. drops (record { content = r; accepted = a; named = y }) (forced (accepted-gives p k a) ∙ gone (names (r .set) t) (k t .inForce) y))
             (λ n. leaves (λ s. clash (ap (λ (q : Record). names (q .set) t) (same-content a (s .accepted)) ∙ s .named) n) (λ x s. omega (arith, same-kind a (s .accepted))) (forced (accepted-gives p k a) ∙ rw n))
         turn-force (advertised d) = leaves (λ s. no-advertisement d (s .accepted)) (λ x s. no-advertisement d (s .accepted)) (forced (advertised-gives p k d))
@@ -286,7 +286,7 @@ module _ (p : Profile) where
 
   -- what an accepted Configuration sets by the rules is what it sets in these words
   pub set-in-words : (R : Account) → Words p R → (calls : List Call) (c : Call) (r : Record) → Accepted p configuration c r → (t : Technology)
-      → (setBy ledgerKeeps p (r .set) (r .configuration) (held p calls) t ≡ true) ↔ Sets p R t calls c (settingsIn (r .configuration) t)
+      → (setBy onLedger p (r .set) (r .configuration) (held p calls) t ≡ true) ↔ Sets p R t calls c (settingsIn (r .configuration) t)
   set-in-words R w calls c r a t =
       let q = same (InForce p) R (in-words p) w (length calls) in
       let l : length calls ≤ length calls = omega arith in

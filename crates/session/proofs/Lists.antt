@@ -17,16 +17,16 @@ use Rattle.session.specs.declared.state.RssiState.{RssiState}
 use Rattle.session.specs.declared.state.Session.{Session}
 use Rattle.codec.specs.Technology.{Technology, uwb, cs, nan, rssi, names}
 use Rattle.session.specs.Rules.{Said, message, advertisement, Call, Kind, request, configuration, stop, kindOf, octetsOf, validProfile, shows, Served, conclude, after, setBy, endedBy, serve, respond, call, answerTo, bufferAfter}
-use Rattle.session.specs.Ledger.{Ledger, nothing, ledgerKeeps, ledgerCall, seenFrom, stateAfter}
-use Rattle.session.specs.Session.{yes, inForceIn, markIn, uwbPart, nanPart, rssiPart, sessionKeeps, sessionCall, Does, fresh}
+use Rattle.session.specs.Ledger.{Ledger, nothing, onLedger, ledgerCall, seenFrom, stateAfter}
+use Rattle.session.specs.Session.{yes, inForceIn, markIn, uwbPart, nanPart, rssiPart, onSession, sessionCall, Does, fresh}
 use Rattle.session.specs.Trace.{Event, seenOf, Ran, callsOf}
 use Rattle.session.specs.Demand3.{sessionOf}
 use Rattle.session.proofs.Simulation.{through, call-through, ledgerOf, uwbForce, nanForce, rssiForce, session-follows}
 
 -- ---- what every change of a session keeps, every call keeps
 
-module _ (P : Session → Type 0) (give : (has : Technology → Bool) (s : Session) → P s → P (sessionKeeps .give has s))
-    (put : (isSet : Technology → Bool) (c : Configuration) (s : Session) → P s → P (sessionKeeps .put isSet c s)) (end : (ended : Technology → Bool) (s : Session) → P s → P (sessionKeeps .stop ended s)) where
+module _ (P : Session → Type 0) (give : (has : Technology → Bool) (s : Session) → P s → P (onSession .give has s))
+    (put : (isSet : Technology → Bool) (c : Configuration) (s : Session) → P s → P (onSession .put isSet c s)) (end : (ended : Technology → Bool) (s : Session) → P s → P (onSession .stop ended s)) where
   abbrev Of : Checked (Served Session) → Type 0
   Of (refuse x) = Unit {0}
   Of (accept v) = P (v .state)
@@ -40,27 +40,27 @@ module _ (P : Session → Type 0) (give : (has : Technology → Bool) (s : Sessi
       go false = tt
 
   module _ (s : Session) (h : P s) where
-    served-keeps : (k : Kind) (r : Record) → P (serve sessionKeeps (s .profile) k r s .state)
+    served-keeps : (k : Kind) (r : Record) → P (serve onSession (s .profile) k r s .state)
     served-keeps request r = give (shows (s .profile) (names (r .set))) s h
-    served-keeps configuration r = put (setBy sessionKeeps (s .profile) (r .set) (r .configuration) s) (r .configuration) s h
-    served-keeps stop r = end (endedBy sessionKeeps (s .profile) (r .set) s) s h
+    served-keeps configuration r = put (setBy onSession (s .profile) (r .set) (r .configuration) s) (r .configuration) s h
+    served-keeps stop r = end (endedBy onSession (s .profile) (r .set) s) s h
 
-    respond-keeps : (x : Said) → Of (respond sessionKeeps (s .profile) s x)
+    respond-keeps : (x : Said) → Of (respond onSession (s .profile) s x)
     unfolding respond
     respond-keeps (message m) = go (reading m)
       where
-        by-kind : (r : Record) (o : Checked Kind) → Of (andThen o λ k. accept (serve sessionKeeps (s .profile) k r s))
+        by-kind : (r : Record) (o : Checked Kind) → Of (andThen o λ k. accept (serve onSession (s .profile) k r s))
         by-kind r (refuse x) = tt
         by-kind r (accept k) = served-keeps k r
 
-        go : (o : Checked Record) → Of (andThen o λ r. andThen (kindOf (r .id)) λ k. accept (serve sessionKeeps (s .profile) k r s))
+        go : (o : Checked Record) → Of (andThen o λ r. andThen (kindOf (r .id)) λ k. accept (serve onSession (s .profile) k r s))
         go (refuse x) = tt
         go (accept r) = by-kind r (kindOf (r .id))
     respond-keeps advertisement = give (shows (s .profile) (λ t. true)) s h
 
-    call-keeps : (c : Call) → Of (call sessionKeeps (s .profile) s c)
+    call-keeps : (c : Call) → Of (call onSession (s .profile) s c)
     unfolding call
-    call-keeps c = go (respond sessionKeeps (s .profile) s (c .said)) (respond-keeps (c .said))
+    call-keeps c = go (respond onSession (s .profile) s (c .said)) (respond-keeps (c .said))
       where
         go : (o : Checked (Served Session)) → Of o → Of (andThen o (conclude (c .lent)))
         go (refuse x) k = tt
@@ -74,8 +74,8 @@ module _ (P : Session → Type 0) (give : (has : Technology → Bool) (s : Sessi
     unfolding sessionCall
     kept c = go (validProfile (s .profile))
       where
-        go : (t : Bool) → P (after s (demand t notValid (call sessionKeeps (s .profile) s c)))
-        go true = after-keeps (call sessionKeeps (s .profile) s c) (call-keeps c)
+        go : (t : Bool) → P (after s (demand t notValid (call onSession (s .profile) s c)))
+        go true = after-keeps (call onSession (s .profile) s c) (call-keeps c)
         go false = h
 
 -- ---- a session record that is what its ledger holds: flags of 0 or 1, and zero settings where nothing ranges
@@ -132,14 +132,14 @@ module _ (p : Profile) where
 -- ---- one call
 
 module _ (p : Profile) (v : validProfile p ≡ true) (s : Session) (h : s .profile ≡ p) (c : Call) where
-  valid-call : sessionCall s c ≡ call sessionKeeps (s .profile) s c
+  valid-call : sessionCall s c ≡ call onSession (s .profile) s c
   unfolding sessionCall
   valid-call = rw (ap validProfile h ∙ v)
 
   same-call : through ledgerOf (sessionCall s c) ≡ ledgerCall p (ledgerOf s) c
   same-call =
       ap (through ledgerOf) valid-call
-      ∙ (call-through ledgerOf sessionKeeps ledgerKeeps session-follows (s .profile) s c
+      ∙ (call-through ledgerOf onSession onLedger session-follows (s .profile) s c
       ∙ ap (λ (q : Profile). ledgerCall q (ledgerOf s) c) h)
 
 module _ (s : Session) where

@@ -16,12 +16,12 @@ use Rattle.session.specs.declared.state.Profile.{Profile}
 use Rattle.codec.specs.Technology.{Technology, uwb, cs, nan, rssi, names, naming}
 use Rattle.codec.specs.Records.{Settings, settingsIn, capabilityIn, only}
 use Rattle.session.specs.Rules.{Call, request, configuration, stop, explicit, octetsOf, replied, shows, capabilityReply, Served, after, giveOut, configure, endedBy, halt, setBy, answerTo, bufferAfter}
-use Rattle.session.specs.Ledger.{Ledger, nothing, isSome, ledgerKeeps, ledgerCall, Seen, seenFrom, stateAfter}
+use Rattle.session.specs.Ledger.{Ledger, nothing, isSome, onLedger, ledgerCall, Seen, seenFrom, stateAfter}
 use Rattle.session.specs.History.{Account, Counts, Shows, Ends, Sets, Words, Reports}
 use Rattle.session.specs.Trace.{Event, seenOf, callsOf}
 use Rattle.session.specs.Demand3.{held}
 use Rattle.codec.proofs.SetLaws.{naming-below, names-naming}
-use Rattle.session.proofs.Happened.{Happened, refused, accepted, advertised, happened, accepted-gives, advertised-gives}
+use Rattle.session.proofs.Happened.{Happened, declined, served, advertised, happened, accepted-gives, advertised-gives}
 use Rattle.session.proofs.InWords.{InForce, in-words, words-decide, set-in-words, some-of, both, is-some}
 
 nobody : {C : Type 0} (t : Technology) → names 0 t ≡ true → C
@@ -68,8 +68,8 @@ module _ (p : Profile) (R : Account) (w : Words p R) (calls : List Call) (c : Ca
   counted = (to (happened p l c), from)
     where
       to : Happened p l c → answerTo o .refusal ≡ 0 → Counts p c
-      to (refused x e) z = absurd (no-zero x (rw e at z))
-      to (accepted k r a) z = inl (k, (r, a))
+      to (declined x e) z = absurd (no-zero x (rw e at z))
+      to (served k r a) z = inl (k, (r, a))
       to (advertised d) z = inr d
 
       from : Counts p c → answerTo o .refusal ≡ 0
@@ -80,41 +80,41 @@ module _ (p : Profile) (R : Account) (w : Words p R) (calls : List Call) (c : Ca
   set-told t = (to (happened p l c), from)
     where
       to : Happened p l c → names (answerTo o .set) t ≡ true → (x : Settings t) × Sets p R t calls c x
-      to (refused x e) h = nobody t (rw e at h)
-      to (accepted request r a) h = nobody t (rw (accepted-gives p l a) at h)
-      to (accepted configuration r a) h = (settingsIn (r .configuration) t, set-in-words p R w calls c r a t .0 (sym (names-naming (setBy ledgerKeeps p (r .set) (r .configuration) l) t) ∙ (rw (accepted-gives p l a) at h)))
-      to (accepted stop r a) h = nobody t (rw (accepted-gives p l a) at h)
+      to (declined x e) h = nobody t (rw e at h)
+      to (served request r a) h = nobody t (rw (accepted-gives p l a) at h)
+      to (served configuration r a) h = (settingsIn (r .configuration) t, set-in-words p R w calls c r a t .0 (sym (names-naming (setBy onLedger p (r .set) (r .configuration) l) t) ∙ (rw (accepted-gives p l a) at h)))
+      to (served stop r a) h = nobody t (rw (accepted-gives p l a) at h)
       to (advertised d) h = nobody t (rw (advertised-gives p l d) at h)
 
       from : (x : Settings t) × Sets p R t calls c x → names (answerTo o .set) t ≡ true
       from s = let r = s .1 .content in let a = s .1 .accepted in
-          rw (accepted-gives p l a) (names-naming (setBy ledgerKeeps p (r .set) (r .configuration) l) t ∙ set-in-words p R w calls c r a t .1 (subst (λ (y : Settings t). Sets p R t calls c y) (sym (s .1 .settings)) (s .1)))
+          rw (accepted-gives p l a) (names-naming (setBy onLedger p (r .set) (r .configuration) l) t ∙ set-in-words p R w calls c r a t .1 (subst (λ (y : Settings t). Sets p R t calls c y) (sym (s .1 .settings)) (s .1)))
 
   stopped-told : (t : Technology) → (names (answerTo o .stopped) t ≡ true) ↔ Ends p R t calls c
   unfolding endedBy
   stopped-told t = (to (happened p l c), from)
     where
       to : Happened p l c → names (answerTo o .stopped) t ≡ true → Ends p R t calls c
-      to (refused x e) h = nobody t (rw e at h)
-      to (accepted request r a) h = nobody t (rw (accepted-gives p l a) at h)
-      to (accepted configuration r a) h = nobody t (rw (accepted-gives p l a) at h)
-      to (accepted stop r a) h =
-          let z = and-true (names (r .set) t) (isSome (l t .inForce)) (sym (names-naming (endedBy ledgerKeeps p (r .set) l) t) ∙ (rw (accepted-gives p l a) at h)) in
+      to (declined x e) h = nobody t (rw e at h)
+      to (served request r a) h = nobody t (rw (accepted-gives p l a) at h)
+      to (served configuration r a) h = nobody t (rw (accepted-gives p l a) at h)
+      to (served stop r a) h =
+          let z = and-true (names (r .set) t) (isSome (l t .inForce)) (sym (names-naming (endedBy onLedger p (r .set) l) t) ∙ (rw (accepted-gives p l a) at h)) in
           some-of (l t .inForce) (z .1) (λ x q. record { stops = record { content = r; accepted = a; named = z .0 }; settings = x; ranged = words-decide p (InForce p) R (in-words p) w calls t x .0 q })
       to (advertised d) h = nobody t (rw (advertised-gives p l d) at h)
 
       from : Ends p R t calls c → names (answerTo o .stopped) t ≡ true
-      from s = rw (accepted-gives p l (s .stops .accepted)) (names-naming (endedBy ledgerKeeps p (s .stops .content .set) l) t ∙ both (s .stops .named) (is-some (words-decide p (InForce p) R (in-words p) w calls t (s .settings) .1 (s .ranged))))
+      from s = rw (accepted-gives p l (s .stops .accepted)) (names-naming (endedBy onLedger p (s .stops .content .set) l) t ∙ both (s .stops .named) (is-some (words-decide p (InForce p) R (in-words p) w calls t (s .settings) .1 (s .ranged))))
 
   told : Reports p R calls c (answerTo o) (wrote o (c .lent))
   told = record {
     accepted = counted;
     set = set-told;
     stopped = stopped-told;
-    asked = λ r a. rw (accepted-gives p l a) (shown p (names (r .set)) (wrote-reply (giveOut ledgerKeeps p (names (r .set)) l) (c .lent)));
-    advertised = λ d. rw (advertised-gives p l d) (shown p (λ t. true) (wrote-reply (giveOut ledgerKeeps p (λ t. true) l) (c .lent)));
-    configured = λ r a. rw (accepted-gives p l a) (wrote-reply (configure ledgerKeeps p (r .set) (r .configuration) l) (c .lent) ∙ if-explicit (explicit (p .replies)) _);
-    halted = λ r a. rw (accepted-gives p l a) (wrote-reply (halt ledgerKeeps p (r .set) l) (c .lent) ∙ if-explicit (explicit (p .replies)) _);
+    asked = λ r a. rw (accepted-gives p l a) (shown p (names (r .set)) (wrote-reply (giveOut onLedger p (names (r .set)) l) (c .lent)));
+    advertised = λ d. rw (advertised-gives p l d) (shown p (λ t. true) (wrote-reply (giveOut onLedger p (λ t. true) l) (c .lent)));
+    configured = λ r a. rw (accepted-gives p l a) (wrote-reply (configure onLedger p (r .set) (r .configuration) l) (c .lent) ∙ if-explicit (explicit (p .replies)) _);
+    halted = λ r a. rw (accepted-gives p l a) (wrote-reply (halt onLedger p (r .set) l) (c .lent) ∙ if-explicit (explicit (p .replies)) _);
   }
 
 -- ---- of a list whose answers and buffers are the ledger's

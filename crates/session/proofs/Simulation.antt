@@ -19,13 +19,13 @@ use Rattle.session.specs.declared.state.NanState.{NanState}
 use Rattle.session.specs.declared.state.RssiState.{RssiState}
 use Rattle.session.specs.declared.state.Session.{Session}
 use Rattle.codec.specs.Technology.{Technology, uwb, cs, nan, rssi, names}
-use Rattle.session.specs.Rules.{Said, message, advertisement, Call, Kind, request, configuration, stop, kindOf, octetsOf, sets, Served, conclude, Keeps, giveOut, setBy, endedBy, serve, respond, call}
-use Rattle.session.specs.Ledger.{Ledger, isSome, ledgerKeeps}
-use Rattle.session.specs.Session.{yes, inForceIn, rangingIn, markIn, uwbPart, nanPart, rssiPart, sessionKeeps}
+use Rattle.session.specs.Rules.{Said, message, advertisement, Call, Kind, request, configuration, stop, kindOf, octetsOf, eligible, chosen, Served, conclude, Operations, giveOut, setBy, endedBy, serve, respond, call}
+use Rattle.session.specs.Ledger.{Ledger, isSome, onLedger}
+use Rattle.session.specs.Session.{yes, inForceIn, rangingIn, markIn, uwbPart, nanPart, rssiPart, onSession}
 
 -- ---- a state read as another: what is asked of both agrees, and each change goes through
 
-pub record Follows {S T : Type 0} (K : Keeps S) (M : Keeps T) (f : S → T) : Type 0 where
+pub record Follows {S T : Type 0} (K : Operations S) (M : Operations T) (f : S → T) : Type 0 where
   pub ranging : (s : S) (t : Technology) → K .ranging s t ≡ M .ranging (f s) t
   pub barred : (s : S) (t : Technology) → K .barred s t ≡ M .barred (f s) t
   pub give : (has : Technology → Bool) (s : S) → f (K .give has s) ≡ M .give has (f s)
@@ -45,7 +45,7 @@ module _ {S T : Type 0} (f : S → T) where
       go true = refl
       go false = refl
 
-  module _ (K : Keeps S) (M : Keeps T) (F : Follows K M f) (p : Profile) (s : S) where
+  module _ (K : Operations S) (M : Operations T) (F : Follows K M f) (p : Profile) (s : S) where
     abbrev carried : Served S → Served T
     carried v = record { state = f (v .state); reply = v .reply; set = v .set; stopped = v .stopped }
 
@@ -54,7 +54,7 @@ module _ {S T : Type 0} (f : S → T) where
 
     set-same : (set : ℕ) (c : Configuration) → setBy K p set c s ≡ setBy M p set c (f s)
     unfolding setBy
-    set-same set c = fun-ext (λ t. ap (λ (x : Bool). sets p set c t x) (F .barred s t))
+    set-same set c = ap (λ (barred : Technology → Bool). chosen (eligible p set c barred)) (fun-ext (F .barred s))
 
     ended-same : (set : ℕ) → endedBy K p set s ≡ endedBy M p set (f s)
     unfolding endedBy
@@ -129,28 +129,28 @@ abbrev pub rssiForce : RssiState → Option Rssi
 rssiForce u = cond (yes (u .ranging)) (some (u .settings)) none
 
 module _ (s : Session) where
-  given-cell : (has : Technology → Bool) (t : Technology) → ledgerOf (sessionKeeps .give has s) t ≡ ledgerKeeps .give has (ledgerOf s) t
+  given-cell : (has : Technology → Bool) (t : Technology) → ledgerOf (onSession .give has s) t ≡ onLedger .give has (ledgerOf s) t
   unfolding ledgerOf inForceIn markIn
   given-cell has uwb = λ i. record { inForce = inForceIn s uwb; mark = given-mark (has uwb) (s .mark) i }
   given-cell has cs = refl
   given-cell has nan = refl
   given-cell has rssi = refl
 
-  put-cell : (isSet : Technology → Bool) (c : Configuration) (t : Technology) → ledgerOf (sessionKeeps .put isSet c s) t ≡ ledgerKeeps .put isSet c (ledgerOf s) t
+  put-cell : (isSet : Technology → Bool) (c : Configuration) (t : Technology) → ledgerOf (onSession .put isSet c s) t ≡ onLedger .put isSet c (ledgerOf s) t
   unfolding ledgerOf inForceIn markIn
   put-cell isSet c uwb = λ i. record { inForce = cond-map uwbForce (isSet uwb) (uwbPart (some (c .uwb))) (s .uwb) i; mark = yes (s .mark) }
   put-cell isSet c cs = refl
   put-cell isSet c nan = λ i. record { inForce = cond-map nanForce (isSet nan) (nanPart (some (c .nan))) (s .nan) i; mark = false }
   put-cell isSet c rssi = λ i. record { inForce = cond-map rssiForce (isSet rssi) (rssiPart (some (c .rssi))) (s .rssi) i; mark = false }
 
-  stop-cell : (ended : Technology → Bool) (t : Technology) → ledgerOf (sessionKeeps .stop ended s) t ≡ ledgerKeeps .stop ended (ledgerOf s) t
+  stop-cell : (ended : Technology → Bool) (t : Technology) → ledgerOf (onSession .stop ended s) t ≡ onLedger .stop ended (ledgerOf s) t
   unfolding ledgerOf inForceIn markIn
   stop-cell ended uwb = λ i. record { inForce = cond-map uwbForce (ended uwb) (uwbPart none) (s .uwb) i; mark = ended-mark (ended uwb) (s .mark) i }
   stop-cell ended cs = λ i. record { inForce = none-either (ended cs) i; mark = false }
   stop-cell ended nan = λ i. record { inForce = cond-map nanForce (ended nan) (nanPart none) (s .nan) i; mark = false }
   stop-cell ended rssi = λ i. record { inForce = cond-map rssiForce (ended rssi) (rssiPart none) (s .rssi) i; mark = false }
 
-pub session-follows : Follows sessionKeeps ledgerKeeps ledgerOf
+pub session-follows : Follows onSession onLedger ledgerOf
 unfolding ledgerOf
 session-follows = record {
   ranging = ranging-same;

@@ -7,9 +7,9 @@ use Rattle.session.specs.declared.state.Profile.{Profile}
 use Rattle.codec.specs.Technology.{Technology}
 use Rattle.session.specs.Within.{ranges, bars}
 use Rattle.session.specs.Rules.{Call, request, configuration, stop, after, endedBy}
-use Rattle.session.specs.Ledger.{Ledger, Cell, nothing, ledgerKeeps, ledgerCall, stateAfter}
+use Rattle.session.specs.Ledger.{Ledger, Cell, nothing, onLedger, ledgerCall, stateAfter}
 use Rattle.session.specs.Demand3.{held}
-use Rattle.session.proofs.Happened.{Happened, refused, accepted, advertised, happened, accepted-gives, advertised-gives}
+use Rattle.session.proofs.Happened.{Happened, declined, served, advertised, happened, accepted-gives, advertised-gives}
 
 pub record Sound (t : Technology) (x : Cell t) : Type 0 where
   pub still : ranges t ≡ false → x .inForce ≡ none
@@ -24,10 +24,10 @@ module _ (p : Profile) (t : Technology) where
   sound-call l c h = go (happened p l c)
     where
       go : Happened p l c → Sound t (after l (ledgerCall p l c) t)
-      go (refused x e) = rw e h
-      go (accepted request r a) = rw (accepted-gives p l a) (record { still = h .still; free = λ f. rw (h .free f) })
-      go (accepted configuration r a) = rw (accepted-gives p l a) (record { still = λ f. rw f (h .still f); free = h .free })
-      go (accepted stop r a) = rw (accepted-gives p l a) (record { still = λ f. rw (h .still f) (none-either (endedBy ledgerKeeps p (r .set) l t)); free = λ f. rw (h .free f, f) })
+      go (declined x e) = rw e h
+      go (served request r a) = rw (accepted-gives p l a) (record { still = h .still; free = λ f. rw (h .free f) })
+      go (served configuration r a) = rw (accepted-gives p l a) (record { still = λ f. rw f (h .still f); free = h .free })
+      go (served stop r a) = rw (accepted-gives p l a) (record { still = λ f. rw (h .still f) (none-either (endedBy onLedger p (r .set) l t)); free = λ f. rw (h .free f, f) })
       go (advertised d) = rw (advertised-gives p l d) (record { still = h .still; free = λ f. rw (h .free f) })
 
   sound-after : (calls : List Call) (l : Ledger) → Sound t (l t) → Sound t (stateAfter (ledgerCall p) l calls t)

@@ -27,7 +27,7 @@ use Rattle.session.specs.declared.state.Session.{Session}
 use Rattle.session.specs.declared.state.Answer.{Answer}
 use Rattle.codec.specs.Technology.{Technology, technologyId, uwb, cs, nan, rssi, names, naming, bit, ofBits, inBoth}
 use Rattle.session.specs.Rules.{validProfile, message, advertisement, Call, Kind, request, configuration, stop, kindOf, octetsOf, replied, shows, capabilityReply, Served, conclude, giveOut, configure, setBy, endedBy, halt, serve, respond, call, after, answerTo}
-use Rattle.session.specs.Session.{yes, rangingIn, sessionKeeps, sessionCall, Gives, asProfile, profileOf}
+use Rattle.session.specs.Session.{yes, rangingIn, onSession, sessionCall, Gives, asProfile, profileOf}
 use Rattle.session.specs.Replies.{Delivers, settle, Answers}
 use Rattle.codec.proofs.SetLaws.{naming-below, names-naming}
 
@@ -105,11 +105,11 @@ module _ (s : Session) (wanted : ℕ) {blocks m : ℕ} {b e : List ℕ} {w : Wri
     (k : blocks ≡ naming (inBoth wanted (s .profile .set)))
     (q : m ≡ cond (bit blocks 0 && eqb (w .refusal) 0) 0 (s .mark))
     (v : validProfile (s .profile) ≡ true) (h : Writes (response blocks (only blocks (s .profile .capability))) b w e) where
-  pub given : Gives s (conclude b (giveOut sessionKeeps (s .profile) (names wanted) s)) b (settle w 0 0) (record { profile = s .profile; uwb = s .uwb; nan = s .nan; rssi = s .rssi; mark = m }) e
+  pub given : Gives s (conclude b (giveOut onSession (s .profile) (names wanted) s)) b (settle w 0 0) (record { profile = s .profile; uwb = s .uwb; nan = s .nan; rssi = s .rssi; mark = m }) e
   unfolding conclude shows
   given = let f = shows (s .profile) (names wanted) in
       let d = capabilities-delivered (s .profile) wanted v k h in
-      let a = settled (giveOut sessionKeeps (s .profile) (names wanted) s) d in
+      let a = settled (giveOut onSession (s .profile) (names wanted) s) d in
       let x = ap (λ (n : ℕ). bit n 0) k ∙ names-naming f uwb in
       record {
         answer = a .answer;
@@ -135,25 +135,25 @@ alone t on u = cond (eqb (technologyId t) (technologyId u)) on false
 
 -- what the answer names is set and stopped
 abbrev pub follow : Configuration → Answer → Session → Session
-follow c a s = ends (names (a .stopped)) c (sessionKeeps .put (names (a .set)) c s)
+follow c a s = ends (names (a .stopped)) c (onSession .put (names (a .set)) c s)
 
 pub follow-none : (c : Configuration) (w : Written) (s : Session) → follow c (settle w 0 0) s ≡ s
 follow-none c w s = by-bool (eqb (w .refusal) 0) (λ t. rw t) (λ t. rw t)
 
 module _ (s : Session) (set : ℕ) (b : List ℕ) where
-  pub follow-configure : (c : Configuration) → let o = conclude b (configure sessionKeeps (s .profile) set c s) in follow c (answerTo o) s ≡ after s o
+  pub follow-configure : (c : Configuration) → let o = conclude b (configure onSession (s .profile) set c s) in follow c (answerTo o) s ≡ after s o
   unfolding conclude
-  follow-configure c = let f = setBy sessionKeeps (s .profile) set c s in
-      by-bool (leb (length (octetsOf (configure sessionKeeps (s .profile) set c s .reply))) (length b)) (λ t. rw (t, names-naming f uwb, names-naming f nan, names-naming f rssi)) (λ t. rw t)
+  follow-configure c = let f = setBy onSession (s .profile) set c s in
+      by-bool (leb (length (octetsOf (configure onSession (s .profile) set c s .reply))) (length b)) (λ t. rw (t, names-naming f uwb, names-naming f nan, names-naming f rssi)) (λ t. rw t)
 
-  pub follow-halt : {c : Configuration} → c ≡ blank configurations → let o = conclude b (halt sessionKeeps (s .profile) set s) in follow c (answerTo o) s ≡ after s o
+  pub follow-halt : {c : Configuration} → c ≡ blank configurations → let o = conclude b (halt onSession (s .profile) set s) in follow c (answerTo o) s ≡ after s o
   unfolding conclude
-  follow-halt {c} z = let f = endedBy sessionKeeps (s .profile) set s in
-      by-bool (leb (length (octetsOf (halt sessionKeeps (s .profile) set s .reply))) (length b)) (λ t. rw (t, z, names-naming f uwb, names-naming f nan, names-naming f rssi)) (λ t. rw t)
+  follow-halt {c} z = let f = endedBy onSession (s .profile) set s in
+      by-bool (leb (length (octetsOf (halt onSession (s .profile) set s .reply))) (length b)) (λ t. rw (t, z, names-naming f uwb, names-naming f nan, names-naming f rssi)) (λ t. rw t)
 
 -- ---- what a Stop ends, where CS is never ranging
 
-pub ended-set : (p : Profile) (set : ℕ) (s : Session) → ofBits ((bit set 0 && yes (s .uwb .ranging)) ∷ false ∷ (bit set 2 && yes (s .nan .ranging)) ∷ (bit set 3 && yes (s .rssi .ranging)) ∷ []) ≡ naming (endedBy sessionKeeps p set s)
+pub ended-set : (p : Profile) (set : ℕ) (s : Session) → ofBits ((bit set 0 && yes (s .uwb .ranging)) ∷ false ∷ (bit set 2 && yes (s .nan .ranging)) ∷ (bit set 3 && yes (s .rssi .ranging)) ∷ []) ≡ naming (endedBy onSession p set s)
 unfolding endedBy rangingIn
 ended-set p set s = rw (and-false (bit set 1))
 
@@ -182,14 +182,14 @@ module _ (s : Session) (m b : List ℕ) {a : TagReading} (h : a ≡ forTag (answ
   given-message = sessionCall s (record { said = message m; lent = b })
 
   abbrev by-kind : Checked (Served Session)
-  by-kind = andThen (kindOf (a .id)) λ k. conclude b (serve sessionKeeps (s .profile) k (tagged a) s)
+  by-kind = andThen (kindOf (a .id)) λ k. conclude b (serve onSession (s .profile) k (tagged a) s)
 
   pub not-heard : (a .refusal ≡ 0 → ⊥) → Refuses s given-message b (a .refusal)
   unfolding sessionCall call respond
   not-heard z = go (validProfile (s .profile)) (reading m) h
     where
       go : (v : Bool) (o : Checked Record) → a ≡ forTag (answer (demand v notValid o))
-          → Refuses s (demand v notValid (andThen (andThen o λ r. andThen (kindOf (r .id)) λ k. accept (serve sessionKeeps (s .profile) k r s)) (conclude b))) b (a .refusal)
+          → Refuses s (demand v notValid (andThen (andThen o λ r. andThen (kindOf (r .id)) λ k. accept (serve onSession (s .profile) k r s)) (conclude b))) b (a .refusal)
       go false o q = rw q (refuses notValid)
       go true (refuse x) q = rw q (refuses x)
       go true (accept r) q = absurd (z (ap (λ (y : TagReading). y .refusal) q))
@@ -201,17 +201,17 @@ module _ (s : Session) (m b : List ℕ) {a : TagReading} (h : a ≡ forTag (answ
       refused : (x : Refusal) → a .refusal ≡ numberOf x → ⊥
       refused x q = no-zero x (sym q ∙ z)
 
-      same : (r : Record) (k : Kind) → serve sessionKeeps (s .profile) k r s ≡ serve sessionKeeps (s .profile) k (tagged (forTag (accepted r))) s
+      same : (r : Record) (k : Kind) → serve onSession (s .profile) k r s ≡ serve onSession (s .profile) k (tagged (forTag (accepted r))) s
       same r request = refl
       same r configuration = refl
       same r stop = refl
 
-      of : (r : Record) (o : Checked Kind) → andThen (andThen o λ k. accept (serve sessionKeeps (s .profile) k r s)) (conclude b) ≡ (andThen o λ k. conclude b (serve sessionKeeps (s .profile) k (tagged (forTag (accepted r))) s))
+      of : (r : Record) (o : Checked Kind) → andThen (andThen o λ k. accept (serve onSession (s .profile) k r s)) (conclude b) ≡ (andThen o λ k. conclude b (serve onSession (s .profile) k (tagged (forTag (accepted r))) s))
       of r (refuse x) = refl
       of r (accept k) = ap (conclude b) (same r k)
 
       go : (v : Bool) (o : Checked Record) → a ≡ forTag (answer (demand v notValid o))
-          → (v ≡ true) × (demand v notValid (andThen (andThen o λ r. andThen (kindOf (r .id)) λ k. accept (serve sessionKeeps (s .profile) k r s)) (conclude b)) ≡ by-kind)
+          → (v ≡ true) × (demand v notValid (andThen (andThen o λ r. andThen (kindOf (r .id)) λ k. accept (serve onSession (s .profile) k r s)) (conclude b)) ≡ by-kind)
       go false o q = absurd (refused notValid (ap (λ (y : TagReading). y .refusal) q))
       go true (refuse x) q = absurd (refused x (ap (λ (y : TagReading). y .refusal) q))
       go true (accept r) q = (refl, rw q (of r (kindOf (r .id))))
@@ -220,17 +220,17 @@ module _ (s : Session) (m b : List ℕ) {a : TagReading} (h : a ≡ forTag (answ
   heard-unset = subst (λ (y : TagReading). (y .id ≡ 2 → ⊥) → y .configuration ≡ blank configurations) (sym h) (unset m (validProfile (s .profile)))
 
   module _ (z : a .refusal ≡ 0) where
-    pub a-message : {k : Kind} {x : Answer} {n : Session} {e : List ℕ} → kindOf (a .id) ≡ accept k → Gives s (conclude b (serve sessionKeeps (s .profile) k (tagged a) s)) b x n e → Gives s given-message b x n e
+    pub a-message : {k : Kind} {x : Answer} {n : Session} {e : List ℕ} → kindOf (a .id) ≡ accept k → Gives s (conclude b (serve onSession (s .profile) k (tagged a) s)) b x n e → Gives s given-message b x n e
     a-message i g = rw (was-heard z .1, i) g
 
     pub another : (a .id ≡ 0 → ⊥) → (a .id ≡ 2 → ⊥) → (a .id ≡ 6 → ⊥) → Refuses s given-message b 10
     another h k l = rw (was-heard z .1, ne-eqb (a .id) 0 h, ne-eqb (a .id) 2 k, ne-eqb (a .id) 6 l) (refuses notForTag)
 
 -- an advertisement wants every technology
-pub advertised : (s : Session) (b : List ℕ) → validProfile (s .profile) ≡ true → {x : Answer} {n : Session} {e : List ℕ} → Gives s (conclude b (giveOut sessionKeeps (s .profile) (names 15) s)) b x n e
+pub advertised : (s : Session) (b : List ℕ) → validProfile (s .profile) ≡ true → {x : Answer} {n : Session} {e : List ℕ} → Gives s (conclude b (giveOut onSession (s .profile) (names 15) s)) b x n e
     → Gives s (sessionCall s (record { said = advertisement; lent = b })) b x n e
 unfolding sessionCall call respond
-advertised s b v {x} {n} {e} g = rw v (subst (λ (f : Technology → Bool). Gives s (conclude b (giveOut sessionKeeps (s .profile) f s)) b x n e) (fun-ext (names-naming (λ t. true))) g)
+advertised s b v {x} {n} {e} g = rw v (subst (λ (f : Technology → Bool). Gives s (conclude b (giveOut onSession (s .profile) f s)) b x n e) (fun-ext (names-naming (λ t. true))) g)
 
 -- ---- the start
 

@@ -15,7 +15,7 @@ use Rattle.session.specs.declared.state.Profile.{Profile}
 use Rattle.session.specs.declared.state.Answer.{Answer}
 use Rattle.codec.specs.Technology.{Technology, technologyId, names}
 use Rattle.codec.specs.Records.{Settings, settingsIn, capabilityIn, setRecord}
-use Rattle.session.specs.Within.{ranges, bars, within}
+use Rattle.session.specs.Within.{ranges, bars, withinProfile}
 use Rattle.session.specs.Rules.{Call, message, advertisement, Kind, request, configuration, stop, kindOf, explicit, capabilityReply}
 
 -- an account of what ranges, with which settings, after each list of calls
@@ -103,7 +103,7 @@ module _ (p : Profile) where
       pub accepted : Accepted configuration c content
       pub named : names (content .set) t ≡ true
       pub has : names (p .set) t ≡ true
-      pub fit : within t (capabilityIn (p .capability) t) (settingsIn (content .configuration) t) ≡ true
+      pub fit : withinProfile t (capabilityIn (p .capability) t) (settingsIn (content .configuration) t) ≡ true
       pub free : bars t ≡ true → Barred t calls → ⊥
       pub settings : settingsIn (content .configuration) t ≡ x
 

@@ -20,7 +20,7 @@ use Rattle.session.specs.declared.state.Answer.{Answer}
 use Rattle.session.specs.declared.state.Started.{Started}
 use Rattle.codec.specs.Technology.{Technology, uwb, cs, nan, rssi}
 use Rattle.codec.specs.Records.{Settings, capabilities, configurations, blank}
-use Rattle.session.specs.Rules.{Call, validProfile, Served, Keeps, call, after, answerTo, bufferAfter}
+use Rattle.session.specs.Rules.{Call, validProfile, Served, Operations, call, after, answerTo, bufferAfter}
 
 -- a flag is a number: 0 no, anything else yes
 abbrev pub yes : ℕ → Bool
@@ -59,8 +59,8 @@ abbrev pub rssiPart : Option Rssi → RssiState
 rssiPart none = record { ranging = 0; settings = blank configurations .rssi }
 rssiPart (some x) = record { ranging = 1; settings = x }
 
-abbrev pub sessionKeeps : Keeps Session
-sessionKeeps = record {
+abbrev pub onSession : Operations Session
+onSession = record {
   ranging = rangingIn;
   barred = markIn;
   give = λ has s. record { profile = s .profile; uwb = s .uwb; nan = s .nan; rssi = s .rssi; mark = cond (has uwb) 0 (s .mark) };
@@ -82,7 +82,7 @@ sessionKeeps = record {
 
 -- a profile that is not valid is refused before all else
 unfoldable pub sessionCall : Session → Call → Checked (Served Session)
-sessionCall s c = demand (validProfile (s .profile)) notValid (call sessionKeeps (s .profile) s c)
+sessionCall s c = demand (validProfile (s .profile)) notValid (call onSession (s .profile) s c)
 
 -- what a call that leads to `o` gives: its answer, the session that it returns or leaves, and its buffer before and after
 pub record Gives (s : Session) (o : Checked (Served Session)) (before : List ℕ) (a : Answer) (next : Session) (left : List ℕ) : Type 0 where

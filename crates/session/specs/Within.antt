@@ -43,14 +43,14 @@ abbrev pub hasRole : ℕ → ℕ → Bool
 hasRole roles role = (eqb role 1 && bit roles 0) || (eqb role 2 && bit roles 1)
 
 -- the settings of a technology lie within what the profile says of it
-abbrev pub within : (t : Technology) → CapabilityOf t → Settings t → Bool
-within uwb k x =
+abbrev pub withinProfile : (t : Technology) → CapabilityOf t → Settings t → Bool
+withinProfile uwb k x =
     hasConfigId (k .«config_ids») (x .«config_id»)
     && (hasChannel (k .channels) (x .channel)
     && (hasPreambleIndex (k .«preamble_indexes») (x .«preamble_index»)
     && (leb (k .«shortest_interval») (x .interval)
     && (leb (k .«shortest_slot») (x .slot)
     && hasRole (k .roles) (x .role)))))
-within cs k x = bit (k .«security_types») (x .«security_level»)
-within nan k x = not (eqb (x .periodic) 1) || eqb (k .periodic) 1
-within rssi k x = true
+withinProfile cs k x = bit (k .«security_types») (x .«security_level»)
+withinProfile nan k x = not (eqb (x .periodic) 1) || eqb (k .periodic) 1
+withinProfile rssi k x = true

@@ -6,7 +6,7 @@ use mathlib.Core.Path.{_≡_, _∙_, sym, ap, subst}
 use Rattle.codec.specs.Technology.{uwb, nan, rssi, names}
 use Rattle.session.specs.Rules.{message, request, configuration, stop, kindOf}
 use Rattle.session.specs.declared.state.Session.{Session}
-use Rattle.session.specs.Session.{sessionKeeps, sessionCall, Gives}
+use Rattle.session.specs.Session.{onSession, sessionCall, Gives}
 use Rattle.session.proofs.Steps.{alone, not-heard, was-heard, heard-unset, ends, a-message, another, given, follow, follow-none, follow-configure, follow-halt, with-session}
 use borrow.Author.Needs.{needs}
 use Rattle.session.proofs.calls.message.Statement.{statement}
@@ -33,13 +33,13 @@ by-kind c = let a = c .before .before .before .before .before .before .before .b
     (c .if1 .came)
 
 -- what the answer names is set
-set-uwb : (c : tie.Joined2) → let k = c .before .before in c .if2 .session ≡ sessionKeeps .put (alone uwb (names (k .if1 .answer .set) uwb)) (k .before .before .before .before .hear .result .configuration) (k .if1 .session)
+set-uwb : (c : tie.Joined2) → let k = c .before .before in c .if2 .session ≡ onSession .put (alone uwb (names (k .if1 .answer .set) uwb)) (k .before .before .before .before .hear .result .configuration) (k .if1 .session)
 set-uwb c = ⊎-elim (λ w. rw (w .2, w .1 .ensures, sym (c .before .has .ensures) ∙ w .0 .taken)) (λ w. rw (w .1, sym (c .before .has .ensures) ∙ w .0 .left)) (c .if2 .came)
 
-set-nan : (c : tie.Joined3) → let k = c .before .before .before .before in c .if3 .session ≡ sessionKeeps .put (alone nan (names (k .if1 .answer .set) nan)) (k .before .before .before .before .hear .result .configuration) (c .before .before .if2 .session)
+set-nan : (c : tie.Joined3) → let k = c .before .before .before .before in c .if3 .session ≡ onSession .put (alone nan (names (k .if1 .answer .set) nan)) (k .before .before .before .before .hear .result .configuration) (c .before .before .if2 .session)
 set-nan c = ⊎-elim (λ w. rw (w .2, w .1 .ensures, sym (c .before .has2 .ensures) ∙ w .0 .taken)) (λ w. rw (w .1, sym (c .before .has2 .ensures) ∙ w .0 .left)) (c .if3 .came)
 
-set-rssi : (c : tie.Joined4) → let k = c .before .before .before .before .before .before in c .if4 .session ≡ sessionKeeps .put (alone rssi (names (k .if1 .answer .set) rssi)) (k .before .before .before .before .hear .result .configuration) (c .before .before .if3 .session)
+set-rssi : (c : tie.Joined4) → let k = c .before .before .before .before .before .before in c .if4 .session ≡ onSession .put (alone rssi (names (k .if1 .answer .set) rssi)) (k .before .before .before .before .hear .result .configuration) (c .before .before .if3 .session)
 set-rssi c = ⊎-elim (λ w. rw (w .2, w .1 .ensures, sym (c .before .has3 .ensures) ∙ w .0 .taken)) (λ w. rw (w .1, sym (c .before .has3 .ensures) ∙ w .0 .left)) (c .if4 .came)
 
 -- and stopped
