@@ -1,9 +1,9 @@
 pub mod Steps
+pub mod Happened
+pub mod Sound
 pub mod Simulation
 pub mod Lists
 pub mod Last
-pub mod Happened
-pub mod Sound
 pub mod InWords
 pub mod Reported
 pub mod Demand3

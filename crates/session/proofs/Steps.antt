@@ -10,7 +10,7 @@ use borrow.Author.Tests.{lt-ltb, le-leb, ne-eqb, eqb-true}
 use Rattle.codec.specs.Layout.{Layout, Values}
 use Rattle.codec.specs.Refusal.{Refusal, Checked, refuse, accept, demand, andThen, numberOf, notForTag, notValid}
 use Rattle.codec.specs.Blocks.{uwbCapability, csCapability, nanCapability}
-use Rattle.codec.specs.Records.{capabilities, configurations, blank, response, only, setRecord, accepted, answer, forTag, ofUwbCapability, ofCsCapability, ofNanCapability}
+use Rattle.codec.specs.Records.{settingsIn, capabilities, configurations, blank, response, only, setRecord, accepted, answer, forTag, ofUwbCapability, ofCsCapability, ofNanCapability}
 use Rattle.codec.specs.Message.{idOf, setOf, parse, recordOf, reading}
 use Rattle.codec.specs.NormalForm.{normal}
 use Rattle.codec.specs.Valid.{validFields, validColumn, valid}
@@ -26,8 +26,9 @@ use Rattle.session.specs.declared.state.Profile.{Profile}
 use Rattle.session.specs.declared.state.Session.{Session}
 use Rattle.session.specs.declared.state.Answer.{Answer}
 use Rattle.codec.specs.Technology.{Technology, technologyId, uwb, cs, nan, rssi, names, naming, bit, ofBits, inBoth}
+use Rattle.session.specs.Within.{bars}
 use Rattle.session.specs.Rules.{validProfile, message, advertisement, Call, Kind, request, configuration, stop, kindOf, octetsOf, replied, shows, capabilityReply, Served, conclude, giveOut, configure, setBy, endedBy, halt, serve, respond, call, after, answerTo}
-use Rattle.session.specs.Session.{yes, rangingIn, onSession, sessionCall, Gives, asProfile, profileOf}
+use Rattle.session.specs.Session.{yes, partIn, markIn, sessionWith, onSession, sessionCall, Gives, asProfile, profileOf}
 use Rattle.session.specs.Replies.{Delivers, settle, Answers}
 use Rattle.codec.proofs.SetLaws.{naming-below, names-naming}
 
@@ -105,7 +106,7 @@ module _ (s : Session) (wanted : ℕ) {blocks m : ℕ} {b e : List ℕ} {w : Wri
     (k : blocks ≡ naming (inBoth wanted (s .profile .set)))
     (q : m ≡ cond (bit blocks 0 && eqb (w .refusal) 0) 0 (s .mark))
     (v : validProfile (s .profile) ≡ true) (h : Writes (response blocks (only blocks (s .profile .capability))) b w e) where
-  pub given : Gives s (conclude b (giveOut onSession (s .profile) (names wanted) s)) b (settle w 0 0) (record { profile = s .profile; uwb = s .uwb; nan = s .nan; rssi = s .rssi; mark = m }) e
+  pub given : Gives s (conclude b (giveOut onSession (s .profile) (names wanted) s)) b (settle w 0 0) (sessionWith (s .profile) (partIn s) (λ t. m)) e
   unfolding conclude shows
   given = let f = shows (s .profile) (names wanted) in
       let d = capabilities-delivered (s .profile) wanted v k h in
@@ -121,13 +122,7 @@ module _ (s : Session) (wanted : ℕ) {blocks m : ℕ} {b e : List ℕ} {w : Wri
 
 -- what stops, with a message's settings
 abbrev pub ends : (Technology → Bool) → Configuration → Session → Session
-ends ended c s = record {
-  profile = s .profile;
-  uwb = cond (ended uwb) (record { ranging = 0; settings = c .uwb }) (s .uwb);
-  nan = cond (ended nan) (record { ranging = 0; settings = c .nan }) (s .nan);
-  rssi = cond (ended rssi) (record { ranging = 0; settings = c .rssi }) (s .rssi);
-  mark = cond (ended uwb) 1 (s .mark);
-}
+ends ended c s = sessionWith (s .profile) (λ t. cond (ended t) (record { ranging = 0; settings = settingsIn c t }) (partIn s t)) (λ t. cond (bars t && ended t) 1 (markIn s t))
 
 -- one technology, or none
 abbrev pub alone : Technology → Bool → Technology → Bool
@@ -154,7 +149,7 @@ module _ (s : Session) (set : ℕ) (b : List ℕ) where
 -- ---- what a Stop ends, where CS is never ranging
 
 pub ended-set : (p : Profile) (set : ℕ) (s : Session) → ofBits ((bit set 0 && yes (s .uwb .ranging)) ∷ false ∷ (bit set 2 && yes (s .nan .ranging)) ∷ (bit set 3 && yes (s .rssi .ranging)) ∷ []) ≡ naming (endedBy onSession p set s)
-unfolding endedBy rangingIn
+unfolding endedBy
 ended-set p set s = rw (and-false (bit set 1))
 
 -- ---- by the profile and the reading
