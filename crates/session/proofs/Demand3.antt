@@ -20,7 +20,7 @@ use Rattle.session.specs.Ledger.{nothing, ledgerCall, seenFrom}
 use Rattle.session.specs.Session.{inForceIn, fresh, asProfile, started}
 use Rattle.session.specs.Trace.{Event, seenOf, Ran, callsOf}
 use Rattle.session.specs.Demand3.{held, Upheld, Demand3}
-use Rattle.session.proofs.Steps.{fits, start-refused, start-accepted}
+use Rattle.session.proofs.Steps.{isProfile, start-refused, start-accepted}
 use Rattle.session.proofs.Sound.{sound, sound-nothing}
 use Rattle.session.proofs.Simulation.{in-force}
 use Rattle.session.proofs.Lists.{ran-as-ledger}
@@ -48,7 +48,7 @@ module _ (p : Profile) (v : validProfile p ≡ true) (events : List Event) (e : 
 
 -- ---- from an accepted start
 
-profile-valid : (r : Record) (n : ℕ) → fits r n ≡ true → validProfile (asProfile r n) ≡ true
+profile-valid : (r : Record) (n : ℕ) → isProfile r n ≡ true → validProfile (asProfile r n) ≡ true
 unfolding validProfile valid
 profile-valid r n h =
     let a = and-true (eqb (r .id) 1 && valid r) (ltb n 3) h in
@@ -59,5 +59,5 @@ profile-valid r n h =
 
 pub demand-3 : Demand3
 demand-3 r n x h z events e ran =
-    let t = by-bool (fits r n) (λ t. t) (λ f. absurd (no-zero notValid (sym (ap (λ (y : Started). y .refusal) (h ∙ ap started (start-refused r n f))) ∙ z))) in
+    let t = by-bool (isProfile r n) (λ t. t) (λ f. absurd (no-zero notValid (sym (ap (λ (y : Started). y .refusal) (h ∙ ap started (start-refused r n f))) ∙ z))) in
     from-fresh (asProfile r n) (profile-valid r n t) events e (subst (λ (s : Session). Ran s events e) (ap (λ (y : Started). y .session) (h ∙ ap started (start-accepted r n t))) ran)

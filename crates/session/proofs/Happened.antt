@@ -24,17 +24,17 @@ use Rattle.session.specs.History.{replyLength, Accepted, Advertised, Cou
 
 -- ---- a call is accepted as one thing at the most
 
-abbrev pub number : Kind → ℕ
-number request = 0
-number configuration = 1
-number stop = 2
+abbrev pub rank : Kind → ℕ
+rank request = 0
+rank configuration = 1
+rank stop = 2
 
 module _ {p : Profile} {c : Call} {k : Kind} {r : Record} where
   pub same-content : {j : Kind} {q : Record} → Accepted p k c r → Accepted p j c q → r ≡ q
   same-content a b = cc
 
-  pub same-kind : {j : Kind} {q : Record} → Accepted p k c r → Accepted p j c q → number k ≡ number j
-  same-kind {j} a b = let e : k ≡ j = cc in ap number e
+  pub same-kind : {j : Kind} {q : Record} → Accepted p k c r → Accepted p j c q → rank k ≡ rank j
+  same-kind {j} a b = let e : k ≡ j = cc in ap rank e
 
   pub no-advertisement : Advertised p c → Accepted p k c r → ⊥
   no-advertisement d a = let z : _≡_ {A = ℕ} 0 1 = cc in omega arith
@@ -42,13 +42,13 @@ module _ {p : Profile} {c : Call} {k : Kind} {r : Record} where
 -- ---- what it gives
 
 -- the reply fits, or it does not
-fits : (b : List ℕ) (v : Served Ledger) → length (octetsOf (v .reply)) ≤ length b → conclude b v ≡ accept v
+has-room : (b : List ℕ) (v : Served Ledger) → length (octetsOf (v .reply)) ≤ length b → conclude b v ≡ accept v
 unfolding conclude
-fits b v h = rw (le-leb (length (octetsOf (v .reply))) (length b) h)
+has-room b v h = rw (le-leb (length (octetsOf (v .reply))) (length b) h)
 
-fits-not : (b : List ℕ) (v : Served Ledger) → length b < length (octetsOf (v .reply)) → conclude b v ≡ refuse bufferTooShort
+no-room : (b : List ℕ) (v : Served Ledger) → length b < length (octetsOf (v .reply)) → conclude b v ≡ refuse bufferTooShort
 unfolding conclude
-fits-not b v h = rw (lt-leb (length (octetsOf (v .reply))) (length b) h)
+no-room b v h = rw (lt-leb (length (octetsOf (v .reply))) (length b) h)
 
 -- messages 3 and 7 have four octets
 explicit-length : (on : Bool) (m : SetMessage) (set : ℕ) → length (octetsOf (cond on (some (setRecord m set)) none)) ≡ cond on 4 0
@@ -64,11 +64,11 @@ module _ (p : Profile) (l : Ledger) where
   module _ {c : Call} where
     pub accepted-gives : {k : Kind} {r : Record} → Accepted p k c r → ledgerCall p l c ≡ accept (serve onLedger p k r l)
     unfolding call respond
-    accepted-gives {k} {r} a = rw (a .says, a .reads, a .kind) (fits (c .lent) _ (rw (reply-length k r) (a .room)))
+    accepted-gives {k} {r} a = rw (a .says, a .reads, a .kind) (has-room (c .lent) _ (rw (reply-length k r) (a .room)))
 
     pub advertised-gives : Advertised p c → ledgerCall p l c ≡ accept (giveOut onLedger p (λ t. true) l)
     unfolding call respond
-    advertised-gives d = rw (d .is) (fits (c .lent) _ (d .room))
+    advertised-gives d = rw (d .is) (has-room (c .lent) _ (d .room))
 
     pub refused-not : {x : Refusal} → ledgerCall p l c ≡ refuse x → Counts p c → ⊥
     refused-not e (inl a) = let q = accepted-gives (a .1 .1) in let z : _≡_ {A = ℕ} 0 1 = cc in omega arith
@@ -93,7 +93,7 @@ module _ (p : Profile) (l : Ledger) (c : Call) where
       by-kind m r e q (refuse x) i = declined x (rw (e, q, i))
       by-kind m r e q (accept k) i = by-room (replyLength p k r)
           (λ y. served k r (record { octets = m; says = e; reads = q; kind = i; room = y }))
-          (λ n. rw (e, q, i) (fits-not (c .lent) _ (rw (reply-length p l k r) n)))
+          (λ n. rw (e, q, i) (no-room (c .lent) _ (rw (reply-length p l k r) n)))
 
       by-reading : (m : List ℕ) → c .said ≡ message m → (o : Checked Record) → reading m ≡ o → Happened p l c
       by-reading m e (refuse x) q = declined x (rw (e, q))
@@ -101,4 +101,4 @@ module _ (p : Profile) (l : Ledger) (c : Call) where
 
       by-said : (x : Said) → c .said ≡ x → Happened p l c
       by-said (message m) e = by-reading m e (reading m) refl
-      by-said advertisement e = by-room (length (normal (capabilityReply p (λ t. true)))) (λ y. advertised (record { is = e; room = y })) (λ n. rw e (fits-not (c .lent) _ n))
+      by-said advertisement e = by-room (length (normal (capabilityReply p (λ t. true)))) (λ y. advertised (record { is = e; room = y })) (λ n. rw e (no-room (c .lent) _ n))

@@ -24,7 +24,7 @@ use Rattle.session.specs.History.{Account, Accepted, Counts, Stops, Give
 use Rattle.session.specs.Demand3.{held}
 use Rattle.codec.proofs.SetLaws.{names-naming}
 use Rattle.session.proofs.Last.{Turn, puts, drops, leaves, stays, by-history}
-use Rattle.session.proofs.Happened.{Happened, declined, served, advertised, happened, number, same-content, same-kind, no-advertisement, accepted-gives, advertised-gives, refused-not}
+use Rattle.session.proofs.Happened.{Happened, declined, served, advertised, happened, rank, same-content, same-kind, no-advertisement, accepted-gives, advertised-gives, refused-not}
 use Rattle.session.proofs.Sound.{sound}
 
 pub both : {a b : Bool} → a ≡ true → b ≡ true → (a && b) ≡ true
@@ -87,7 +87,7 @@ module _ (p : Profile) where
     given-counts (inAdvertisement d h) = inr d
 
     -- a Configuration or a Stop gives out nothing
-    none-given : {k : Kind} {c : Call} {r : Record} → Accepted p k c r → (number k ≡ 0 → ⊥) → GivesOut p t c → ⊥
+    none-given : {k : Kind} {c : Call} {r : Record} → Accepted p k c r → (rank k ≡ 0 → ⊥) → GivesOut p t c → ⊥
     none-given a f (inReply q b h) = f (same-kind a b)
     none-given a f (inAdvertisement d h) = no-advertisement d a
 

@@ -28,7 +28,7 @@ use Rattle.session.specs.declared.state.Answer.{Answer}
 use Rattle.codec.specs.Technology.{Technology, technologyId, uwb, cs, nan, rssi, names, naming, bit, ofBits, inBoth}
 use Rattle.session.specs.Within.{bars}
 use Rattle.session.specs.Rules.{validProfile, message, advertisement, Call, Kind, request, configuration, stop, kindOf, octetsOf, replied, shows, capabilityReply, Served, conclude, giveOut, configure, setBy, endedBy, halt, serve, respond, call, after, answerTo}
-use Rattle.session.specs.Session.{yes, partIn, markIn, sessionWith, onSession, sessionCall, Gives, asProfile, profileOf}
+use Rattle.session.specs.Session.{yes, partIn, markIn, withParts, withMarks, onSession, sessionCall, Gives, asProfile, profileOf}
 use Rattle.session.specs.Replies.{Delivers, settle, Answers}
 use Rattle.codec.proofs.SetLaws.{naming-below, names-naming}
 
@@ -57,10 +57,10 @@ pub silent : (b : List ℕ) → Delivers none b (record { refusal = 0; length = 
 silent b = record { answers = rw (le-leb 0 (length b) zero-le); leaves = rw (le-leb 0 (length b) zero-le) }
 
 -- fields that are valid where the profile names them are so where the reply does
-chosen : (L : Layout) (v : Values L) (has named : Bool) → (has ≡ true → named ≡ true) → validFields L named v ≡ true → (not has || validFields L true v) ≡ true
-chosen L v false named i e = refl
-chosen L v true true i e = e
-chosen L v true false i e = absurd (true≢false (sym (i refl)))
+valid-shown : (L : Layout) (v : Values L) (has named : Bool) → (has ≡ true → named ≡ true) → validFields L named v ≡ true → (not has || validFields L true v) ≡ true
+valid-shown L v false named i e = refl
+valid-shown L v true true i e = e
+valid-shown L v true false i e = absurd (true≢false (sym (i refl)))
 
 module _ (p : Profile) (wanted : Technology → Bool) (v : validProfile p ≡ true) where
   has : (t : Technology) → shows p wanted t ≡ true → names (p .set) t ≡ true
@@ -81,8 +81,8 @@ module _ (p : Profile) (wanted : Technology → Bool) (v : validProfile p ≡ tr
         lt-ltb (naming f) 16 (naming-below f),
         names-naming f uwb,
         names-naming f nan,
-        chosen uwbCapability (ofUwbCapability (k .uwb)) (f uwb) _ (has uwb) (u .0),
-        chosen nanCapability (ofNanCapability (k .nan)) (f nan) _ (has nan) (n .0),
+        valid-shown uwbCapability (ofUwbCapability (k .uwb)) (f uwb) _ (has uwb) (u .0),
+        valid-shown nanCapability (ofNanCapability (k .nan)) (f nan) _ (has nan) (n .0),
       )
 
 -- the blocks that the code chooses, by the bits of two sets
@@ -106,7 +106,7 @@ module _ (s : Session) (wanted : ℕ) {blocks m : ℕ} {b e : List ℕ} {w : Wri
     (k : blocks ≡ naming (inBoth wanted (s .profile .set)))
     (q : m ≡ cond (bit blocks 0 && eqb (w .refusal) 0) 0 (s .mark))
     (v : validProfile (s .profile) ≡ true) (h : Writes (response blocks (only blocks (s .profile .capability))) b w e) where
-  pub given : Gives s (conclude b (giveOut onSession (s .profile) (names wanted) s)) b (settle w 0 0) (sessionWith (s .profile) (partIn s) (λ t. m)) e
+  pub given : Gives s (conclude b (giveOut onSession (s .profile) (names wanted) s)) b (settle w 0 0) (withMarks s (λ t. m)) e
   unfolding conclude shows
   given = let f = shows (s .profile) (names wanted) in
       let d = capabilities-delivered (s .profile) wanted v k h in
@@ -122,7 +122,7 @@ module _ (s : Session) (wanted : ℕ) {blocks m : ℕ} {b e : List ℕ} {w : Wri
 
 -- what stops, with a message's settings
 abbrev pub ends : (Technology → Bool) → Configuration → Session → Session
-ends ended c s = sessionWith (s .profile) (λ t. cond (ended t) (record { ranging = 0; settings = settingsIn c t }) (partIn s t)) (λ t. cond (bars t && ended t) 1 (markIn s t))
+ends ended c s = withMarks (withParts s (λ t. cond (ended t) (record { ranging = 0; settings = settingsIn c t }) (partIn s t))) (λ t. cond (bars t && ended t) 1 (markIn s t))
 
 -- one technology, or none
 abbrev pub alone : Technology → Bool → Technology → Bool
@@ -139,12 +139,16 @@ module _ (s : Session) (set : ℕ) (b : List ℕ) where
   pub follow-configure : (c : Configuration) → let o = conclude b (configure onSession (s .profile) set c s) in follow c (answerTo o) s ≡ after s o
   unfolding conclude
   follow-configure c = let f = setBy onSession (s .profile) set c s in
-      by-bool (leb (length (octetsOf (configure onSession (s .profile) set c s .reply))) (length b)) (λ t. rw (t, names-naming f uwb, names-naming f nan, names-naming f rssi)) (λ t. rw t)
+      by-bool (leb (length (octetsOf (configure onSession (s .profile) set c s .reply))) (length b))
+      (λ t. rw t (ap (λ (g : Technology → Bool). onSession .put g c s) (fun-ext (names-naming f))))
+      (λ t. rw t)
 
   pub follow-halt : {c : Configuration} → c ≡ blank configurations → let o = conclude b (halt onSession (s .profile) set s) in follow c (answerTo o) s ≡ after s o
   unfolding conclude
   follow-halt {c} z = let f = endedBy onSession (s .profile) set s in
-      by-bool (leb (length (octetsOf (halt onSession (s .profile) set s .reply))) (length b)) (λ t. rw (t, z, names-naming f uwb, names-naming f nan, names-naming f rssi)) (λ t. rw t)
+      by-bool (leb (length (octetsOf (halt onSession (s .profile) set s .reply))) (length b))
+      (λ t. rw (t, z) (ap (λ (g : Technology → Bool). onSession .stop g s) (fun-ext (names-naming f))))
+      (λ t. rw t)
 
 -- ---- what a Stop ends, where CS is never ranging
 
@@ -179,12 +183,14 @@ module _ (s : Session) (m b : List ℕ) {a : TagReading} (h : a ≡ forTag (answ
   abbrev by-kind : Checked (Served Session)
   by-kind = andThen (kindOf (a .id)) λ k. conclude b (serve onSession (s .profile) k (tagged a) s)
 
+  abbrev by-reading : Bool → Checked Record → Checked (Served Session)
+  by-reading v o = demand v notValid (andThen (andThen o λ r. andThen (kindOf (r .id)) λ k. accept (serve onSession (s .profile) k r s)) (conclude b))
+
   pub not-heard : (a .refusal ≡ 0 → ⊥) → Refuses s given-message b (a .refusal)
   unfolding sessionCall call respond
   not-heard z = go (validProfile (s .profile)) (reading m) h
     where
-      go : (v : Bool) (o : Checked Record) → a ≡ forTag (answer (demand v notValid o))
-          → Refuses s (demand v notValid (andThen (andThen o λ r. andThen (kindOf (r .id)) λ k. accept (serve onSession (s .profile) k r s)) (conclude b))) b (a .refusal)
+      go : (v : Bool) (o : Checked Record) → a ≡ forTag (answer (demand v notValid o)) → Refuses s (by-reading v o) b (a .refusal)
       go false o q = rw q (refuses notValid)
       go true (refuse x) q = rw q (refuses x)
       go true (accept r) q = absurd (z (ap (λ (y : TagReading). y .refusal) q))
@@ -205,8 +211,7 @@ module _ (s : Session) (m b : List ℕ) {a : TagReading} (h : a ≡ forTag (answ
       of r (refuse x) = refl
       of r (accept k) = ap (conclude b) (same r k)
 
-      go : (v : Bool) (o : Checked Record) → a ≡ forTag (answer (demand v notValid o))
-          → (v ≡ true) × (demand v notValid (andThen (andThen o λ r. andThen (kindOf (r .id)) λ k. accept (serve onSession (s .profile) k r s)) (conclude b)) ≡ by-kind)
+      go : (v : Bool) (o : Checked Record) → a ≡ forTag (answer (demand v notValid o)) → (v ≡ true) × (by-reading v o ≡ by-kind)
       go false o q = absurd (refused notValid (ap (λ (y : TagReading). y .refusal) q))
       go true (refuse x) q = absurd (refused x (ap (λ (y : TagReading). y .refusal) q))
       go true (accept r) q = (refl, rw q (of r (kindOf (r .id))))
@@ -230,14 +235,14 @@ advertised s b v {x} {n} {e} g = rw v (subst (λ (f : Technology → Bool). Give
 -- ---- the start
 
 module _ (r : Record) (n : ℕ) where
-  abbrev pub fits : Bool
-  fits = (eqb (r .id) 1 && valid r) && ltb n 3
+  abbrev pub isProfile : Bool
+  isProfile = (eqb (r .id) 1 && valid r) && ltb n 3
 
-  pub start-refused : fits ≡ false → profileOf r n ≡ refuse notValid
+  pub start-refused : isProfile ≡ false → profileOf r n ≡ refuse notValid
   unfolding profileOf
   start-refused h = rw h
 
-  pub start-accepted : fits ≡ true → profileOf r n ≡ accept (asProfile r n)
+  pub start-accepted : isProfile ≡ true → profileOf r n ≡ accept (asProfile r n)
   unfolding profileOf
   start-accepted h = rw h
 

@@ -44,6 +44,7 @@ module _ (p : Profile) where
     pub kind : kindOf (r .id) ≡ accept k
     pub room : replyLength k r ≤ length (c .lent)
 
+  -- an advertisement, with room for what it writes
   pub record Advertised (c : Call) : Type 0 where
     pub is : c .said ≡ advertisement
     pub room : length (normal (capabilityReply p (λ t. true))) ≤ length (c .lent)

@@ -60,6 +60,13 @@ sessionWith p part mark = record {
   mark = mark uwb;
 }
 
+-- the same record with other parts, or with other marks
+abbrev pub withParts : Session → ((t : Technology) → Part t) → Session
+withParts s part = sessionWith (s .profile) part (markIn s)
+
+abbrev pub withMarks : Session → (Technology → ℕ) → Session
+withMarks s mark = sessionWith (s .profile) (partIn s) mark
+
 abbrev pub rangingIn : Session → Technology → Bool
 rangingIn s t = yes (partIn s t .ranging)
 
@@ -69,14 +76,14 @@ inForceIn s t = cond (rangingIn s t) (some (partIn s t .settings)) none
 
 -- ---- the calls
 
--- What is given out loses its mark. What is set, except CS, is ranging with its block's settings. What stops has none, and UWB is marked.
+-- What is given out loses its mark. What is set, except CS, ranges with its block's settings. What stops has none, and UWB gets the mark.
 abbrev pub onSession : Operations Session
 onSession = record {
   ranging = rangingIn;
   barred = λ s t. yes (markIn s t);
-  give = λ has s. sessionWith (s .profile) (partIn s) (λ t. cond (has t) 0 (markIn s t));
-  put = λ isSet c s. sessionWith (s .profile) (λ t. cond (ranges t && isSet t) (partOf (some (settingsIn c t))) (partIn s t)) (markIn s);
-  stop = λ ended s. sessionWith (s .profile) (λ t. cond (ended t) (partOf none) (partIn s t)) (λ t. cond (bars t && ended t) 1 (markIn s t));
+  give = λ has s. withMarks s (λ t. cond (has t) 0 (markIn s t));
+  put = λ isSet c s. withParts s (λ t. cond (ranges t && isSet t) (partOf (some (settingsIn c t))) (partIn s t));
+  stop = λ ended s. withMarks (withParts s (λ t. cond (ended t) (partOf none) (partIn s t))) (λ t. cond (bars t && ended t) 1 (markIn s t));
 }
 
 -- a profile that is not valid is refused before all else
