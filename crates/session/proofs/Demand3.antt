@@ -21,7 +21,7 @@ use Rattle.session.specs.Session.{inForceIn, fresh, asProfile, started}
 use Rattle.session.specs.Trace.{Event, seenOf, Ran, callsOf}
 use Rattle.session.specs.Demand3.{held, Upheld, Demand3}
 use Rattle.session.proofs.Steps.{isProfile, start-refused, start-accepted}
-use Rattle.session.proofs.Sound.{sound, sound-nothing}
+use Rattle.session.proofs.Regular.{regular, regular-nothing}
 use Rattle.session.proofs.Simulation.{in-force}
 use Rattle.session.proofs.Lists.{ran-as-ledger}
 use Rattle.session.proofs.InWords.{InForce, in-words, words-decide}
@@ -33,8 +33,8 @@ module _ (p : Profile) (v : validProfile p ≡ true) (events : List Event) (e : 
   from-fresh : Upheld p events e
   unfolding nothing
   from-fresh =
-      let q = ran-as-ledger p v events nothing e (sound-nothing p) ran in
-      let ranging : (t : Technology) → inForceIn e t ≡ held p (callsOf events) t .inForce = λ t. ap (λ (s : Session). inForceIn s t) (q .1) ∙ in-force p (held p (callsOf events)) (λ t. sound p t (callsOf events)) t in
+      let q = ran-as-ledger p v events nothing e (regular-nothing p) ran in
+      let ranging : (t : Technology) → inForceIn e t ≡ held p (callsOf events) t .inForce = λ t. ap (λ (s : Session). inForceIn s t) (q .1) ∙ in-force p (held p (callsOf events)) (λ t. regular p t (callsOf events)) t in
       record {
         answers = q .0;
         ranging = ranging;

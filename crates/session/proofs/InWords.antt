@@ -25,7 +25,7 @@ use Rattle.session.specs.Demand3.{held}
 use Rattle.codec.proofs.SetLaws.{names-naming}
 use Rattle.session.proofs.Last.{Turn, puts, drops, leaves, stays, by-history}
 use Rattle.session.proofs.Happened.{Happened, declined, served, advertised, happened, rank, same-content, same-kind, no-advertisement, accepted-gives, advertised-gives, refused-not}
-use Rattle.session.proofs.Sound.{sound}
+use Rattle.session.proofs.Regular.{regular}
 
 pub both : {a b : Bool} → a ≡ true → b ≡ true → (a && b) ≡ true
 both x y = rw (x, y)
@@ -156,7 +156,7 @@ module _ (p : Profile) where
     -- ---- what a Configuration sets
 
     unmarked : (before : List Call) → (bars t ≡ true → Barred p InForce t before → ⊥) → held p before t .mark ≡ false
-    unmarked before f = by-bool (bars t) (λ y. by-bool (held p before t .mark) (λ m. absurd (f y (marked-barred y before m))) (λ n. n)) (sound p t before .free)
+    unmarked before f = by-bool (bars t) (λ y. by-bool (held p before t .mark) (λ m. absurd (f y (marked-barred y before m))) (λ n. n)) (regular p t before .free)
 
     -- an accepted Configuration sets it exactly if the rules say so
     module _ (before : List Call) (c : Call) (r : Record) (a : Accepted p configuration c r) where
@@ -213,7 +213,7 @@ module _ (p : Profile) where
 
   -- what the ledger holds is told by the words
   pub in-words : Words p InForce
-  in-words = record { told = told; never = λ t still calls x e. Option·none-ne-some x (sym (sound p t calls .still still) ∙ e) }
+  in-words = record { told = told; never = λ t still calls x e. Option·none-ne-some x (sym (regular p t calls .still still) ∙ e) }
 
 -- ---- the words leave nothing open: two accounts that keep to them are the same
 

@@ -1,6 +1,6 @@
 pub mod Steps
 pub mod Happened
-pub mod Sound
+pub mod Regular
 pub mod Simulation
 pub mod Lists
 pub mod Last

@@ -13,11 +13,11 @@ use Rattle.session.specs.Ledger.{Ledger, onLedger, ledgerCall, seenFrom,
 use Rattle.session.specs.Session.{onSession, sessionCall, Gives}
 use Rattle.session.specs.Trace.{Event, seenOf, Ran, callsOf}
 use Rattle.session.specs.Demand3.{sessionOf}
-use Rattle.session.proofs.Sound.{Sound, sound-call}
+use Rattle.session.proofs.Regular.{Regular, regular-call}
 use Rattle.session.proofs.Simulation.{through, call-through, session-follows}
 
 module _ (p : Profile) where
-  same-call : (l : Ledger) → ((t : Technology) → Sound t (l t)) → validProfile p ≡ true → (c : Call) → sessionCall (sessionOf p l) c ≡ through (sessionOf p) (ledgerCall p l c)
+  same-call : (l : Ledger) → ((t : Technology) → Regular t (l t)) → validProfile p ≡ true → (c : Call) → sessionCall (sessionOf p l) c ≡ through (sessionOf p) (ledgerCall p l c)
   unfolding sessionCall
   same-call l h v c = rw v (call-through (sessionOf p) onLedger onSession p l (session-follows p l h) c)
 
@@ -26,11 +26,11 @@ module _ (p : Profile) where
   given l (refuse x) g = (g .answer, g .session, g .buffer)
   given l (accept v) g = (g .answer, g .session, g .buffer)
 
-  pub ran-as-ledger : validProfile p ≡ true → (events : List Event) (l : Ledger) (e : Session) → ((t : Technology) → Sound t (l t)) → Ran (sessionOf p l) events e
+  pub ran-as-ledger : validProfile p ≡ true → (events : List Event) (l : Ledger) (e : Session) → ((t : Technology) → Regular t (l t)) → Ran (sessionOf p l) events e
       → (map seenOf events ≡ seenFrom (ledgerCall p) l (callsOf events)) × (e ≡ sessionOf p (stateAfter (ledgerCall p) l (callsOf events)))
   ran-as-ledger v [] l e h r = (refl, sym r)
   ran-as-ledger v (x ∷ events) l e h r =
       let o = ledgerCall p l (x .given) in
       let q = given l o (subst (λ (y : Checked (Served Session)). Gives (sessionOf p l) y (x .given .lent) (x .answer) (x .session) (x .left)) (same-call l h v (x .given)) (r .0)) in
-      let k = ran-as-ledger v events (after l o) e (λ t. sound-call p t l (x .given) (h t)) (subst (λ (s : Session). Ran s events e) (q .1) (r .1)) in
+      let k = ran-as-ledger v events (after l o) e (λ t. regular-call p t l (x .given) (h t)) (subst (λ (s : Session). Ran s events e) (q .1) (r .1)) in
       (λ i. record { answer = q .0 i; buffer = q .2 i } ∷ k .0 i, k .1)

@@ -5,7 +5,7 @@ use mathlib.Core.List.{List, [], _∷_, _++_, map}
 use mathlib.Core.Option.{none, some}
 use mathlib.Core.Logic.{_↔_, inl, inr}
 use mathlib.Core.Bool.{Bool, true, false, cond, true≢false}
-use lib.ListN.{length, take}
+use lib.ListN.{take, drop, getD}
 use lib.Seq.{take-at}
 use Rattle.codec.specs.Refusal.{Checked, accept}
 use Rattle.codec.specs.NormalForm.{normal}
@@ -119,18 +119,10 @@ module _ (p : Profile) (R : Account) (w : Words p R) (calls : List Call) (c : Ca
 
 -- ---- of a list whose answers and buffers are the ledger's
 
-abbrev firstOf : Seen → List Seen → Seen
-firstOf s [] = s
-firstOf s (x ∷ l) = x
-
-abbrev rest : List Seen → List Seen
-rest [] = []
-rest (x ∷ l) = l
-
 seen-at : (p : Profile) (before : List Event) (x : Event) (later : List Event) (l : Ledger) → map seenOf (before ++ x ∷ later) ≡ seenFrom (ledgerCall p) l (callsOf (before ++ x ∷ later))
     → let o = ledgerCall p (stateAfter (ledgerCall p) l (callsOf before)) (x .given) in seenOf x ≡ record { answer = answerTo o; buffer = bufferAfter o (x .given .lent) }
-seen-at p [] x later l h = ap (firstOf (seenOf x)) h
-seen-at p (y ∷ before) x later l h = seen-at p before x later (after l (ledgerCall p l (y .given))) (ap rest h)
+seen-at p [] x later l h = ap (λ (s : List Seen). getD s 0 (seenOf x)) h
+seen-at p (y ∷ before) x later l h = seen-at p before x later (after l (ledgerCall p l (y .given))) (ap (drop 1) h)
 
 pub reported : (p : Profile) (R : Account) → Words p R → (before : List Event) (x : Event) (later : List Event)
     → map seenOf (before ++ x ∷ later) ≡ seenFrom (ledgerCall p) nothing (callsOf (before ++ x ∷ later)) → Reports p R (callsOf before) (x .given) (x .answer) (take (x .answer .length) (x .left))

@@ -18,7 +18,7 @@ use Rattle.session.specs.Rules.{Said, message, advertisement, Call, Kind
 use Rattle.session.specs.Ledger.{Ledger, isSome, onLedger}
 use Rattle.session.specs.Session.{yes, flag, Part, partOf, partIn, markIn, sessionWith, inForceIn, onSession}
 use Rattle.session.specs.Demand3.{sessionOf}
-use Rattle.session.proofs.Sound.{Sound}
+use Rattle.session.proofs.Regular.{Regular}
 
 -- ---- a state told by another: what is asked of both agrees, and each change goes through
 
@@ -89,7 +89,7 @@ yes-flag : (m : Bool) → yes (flag m) ≡ m
 yes-flag true = refl
 yes-flag false = refl
 
-module _ (p : Profile) (l : Ledger) (h : (t : Technology) → Sound t (l t)) where
+module _ (p : Profile) (l : Ledger) (h : (t : Technology) → Regular t (l t)) where
   part-of : (t : Technology) → partIn (sessionOf p l) t ≡ partOf (l t .inForce)
   part-of uwb = refl
   part-of cs = ap partOf (sym (h cs .still refl))

@@ -11,7 +11,7 @@ use Rattle.session.specs.Ledger.{Ledger, Cell, nothing, onLedger, ledger
 use Rattle.session.specs.Demand3.{held}
 use Rattle.session.proofs.Happened.{Happened, declined, served, advertised, happened, accepted-gives, advertised-gives}
 
-pub record Sound (t : Technology) (x : Cell t) : Type 0 where
+pub record Regular (t : Technology) (x : Cell t) : Type 0 where
   pub still : ranges t ≡ false → x .inForce ≡ none
   pub free : bars t ≡ false → x .mark ≡ false
 
@@ -20,23 +20,23 @@ none-either true = refl
 none-either false = refl
 
 module _ (p : Profile) (t : Technology) where
-  pub sound-call : (l : Ledger) (c : Call) → Sound t (l t) → Sound t (after l (ledgerCall p l c) t)
-  sound-call l c h = go (happened p l c)
+  pub regular-call : (l : Ledger) (c : Call) → Regular t (l t) → Regular t (after l (ledgerCall p l c) t)
+  regular-call l c h = go (happened p l c)
     where
-      go : Happened p l c → Sound t (after l (ledgerCall p l c) t)
+      go : Happened p l c → Regular t (after l (ledgerCall p l c) t)
       go (declined x e) = rw e h
       go (served request r a) = rw (accepted-gives p l a) (record { still = h .still; free = λ f. rw (h .free f) })
       go (served configuration r a) = rw (accepted-gives p l a) (record { still = λ f. rw f (h .still f); free = h .free })
       go (served stop r a) = rw (accepted-gives p l a) (record { still = λ f. rw (h .still f) (none-either (endedBy onLedger p (r .set) l t)); free = λ f. rw (h .free f, f) })
       go (advertised d) = rw (advertised-gives p l d) (record { still = h .still; free = λ f. rw (h .free f) })
 
-  sound-after : (calls : List Call) (l : Ledger) → Sound t (l t) → Sound t (stateAfter (ledgerCall p) l calls t)
-  sound-after [] l h = h
-  sound-after (c ∷ calls) l h = sound-after calls (after l (ledgerCall p l c)) (sound-call l c h)
+  regular-after : (calls : List Call) (l : Ledger) → Regular t (l t) → Regular t (stateAfter (ledgerCall p) l calls t)
+  regular-after [] l h = h
+  regular-after (c ∷ calls) l h = regular-after calls (after l (ledgerCall p l c)) (regular-call l c h)
 
-  pub sound-nothing : Sound t (nothing t)
+  pub regular-nothing : Regular t (nothing t)
   unfolding nothing
-  sound-nothing = record { still = λ f. refl; free = λ f. refl }
+  regular-nothing = record { still = λ f. refl; free = λ f. refl }
 
-  pub sound : (calls : List Call) → Sound t (held p calls t)
-  sound calls = sound-after calls nothing sound-nothing
+  pub regular : (calls : List Call) → Regular t (held p calls t)
+  regular calls = regular-after calls nothing regular-nothing
