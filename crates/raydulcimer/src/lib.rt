@@ -49,7 +49,7 @@ pub extern "C" fn raydulcimer_start(profile: Record, replies: u8) -> Started
 // Gives a session a message.
 #[no_mangle]
 pub extern "C" fn raydulcimer_message(s: &mut Session, octets: &[u8], out: &mut [u8]) -> Answer
-    ensures { λ r. ⌜ Does (now (s .entry)) (message (now (octets .entry)) (now (out .entry))) r (now (s .exit)) (now (out .exit)) ⌝ }
+    ensures { λ r. ⌜ Does (now (s .entry)) (record { said = message (now (octets .entry)); lent = now (out .entry) }) r (now (s .exit)) (now (out .exit)) ⌝ }
 {
     let t = session::message(*s, octets, out);
     *s = t.session;
@@ -59,7 +59,7 @@ pub extern "C" fn raydulcimer_message(s: &mut Session, octets: &[u8], out: &mut 
 // Has a session advertise its whole profile.
 #[no_mangle]
 pub extern "C" fn raydulcimer_advertise(s: &mut Session, out: &mut [u8]) -> Answer
-    ensures { λ r. ⌜ Does (now (s .entry)) (advertisement (now (out .entry))) r (now (s .exit)) (now (out .exit)) ⌝ }
+    ensures { λ r. ⌜ Does (now (s .entry)) (record { said = advertisement; lent = now (out .entry) }) r (now (s .exit)) (now (out .exit)) ⌝ }
 {
     let t = session::advertise(*s, out);
     *s = t.session;

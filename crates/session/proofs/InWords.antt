@@ -8,7 +8,7 @@ use mathlib.Core.Logic.{_↔_, inl, inr}
 use mathlib.Core.Bool.{Bool, true, false, cond, not, _&&_, true≢false, and-true as Bool·and-true, and-false, or-true, or-false}
 use lib.ListN.{length, length-append}
 use borrow.Author.Tests.{not-true}
-use Rattle.codec.specs.Refusal.{Checked}
+use Rattle.codec.specs.Refusal.{Checked, accept}
 use Rattle.codec.specs.WellFormed.{Has}
 use Rattle.codec.specs.NormalForm.{blocksOf}
 use Rattle.codec.specs.declared.records.Record.{Record}
@@ -17,14 +17,15 @@ use Rattle.codec.proofs.Outcomes.{by-bool, and-true}
 use Rattle.session.specs.declared.state.Profile.{Profile}
 use Rattle.codec.specs.Technology.{Technology, technologyId, naming, names}
 use Rattle.codec.specs.Records.{Settings, settingsIn, capabilityIn, only}
-use Rattle.session.specs.Within.{ranges, bars, within}
-use Rattle.session.specs.Rules.{Call, request, configuration, stop, Served, after, shows, capabilityReply, sets, setBy, endedBy}
-use Rattle.session.specs.Ledger.{Ledger, nothing, isSome, ledgerKeeps, ledgerCall, stateAfter}
-use Rattle.session.specs.History.{Account, Accepted, Stops, GivesOut, inReply, inAdvertisement, Never, Ends, Barred, Sets, LastSet, Words}
+use Rattle.session.specs.Within.{ranges, bars, withinProfile}
+use Rattle.session.specs.Rules.{Call, Kind, request, configuration, stop, Served, after, shows, capabilityReply, giveOut, eligible, setBy, endedBy}
+use Rattle.session.specs.Ledger.{Ledger, nothing, isSome, onLedger, ledgerCall, stateAfter}
+use Rattle.session.specs.History.{Account, Accepted, Counts, Stops, GivesOut, inReply, inAdvertisement, Never, Ends, Barred, Sets, LastSet, Words}
 use Rattle.session.specs.Demand3.{held}
 use Rattle.codec.proofs.SetLaws.{names-naming}
-use Rattle.session.proofs.Last.{Turn, stays, by-history}
-use Rattle.session.proofs.Happened.{Happened, refused, asked, advertised, configured, stopped, happened, same-content, no-request-stop, no-request-configuration, no-configuration-stop, no-advertisement}
+use Rattle.session.proofs.Last.{Turn, puts, drops, leaves, stays, by-history}
+use Rattle.session.proofs.Happened.{Happened, declined, served, advertised, happened, rank, same-content, same-kind, no-advertisement, accepted-gives, advertised-gives, refused-not}
+use Rattle.session.proofs.Regular.{regular}
 
 pub both : {a b : Bool} → a ≡ true → b ≡ true → (a && b) ≡ true
 both x y = rw (x, y)
@@ -49,13 +50,14 @@ state-snoc : (p : Profile) (l : Ledger) (calls : List Call) (c : Call) → state
 state-snoc p l [] c = refl
 state-snoc p l (d ∷ calls) c = state-snoc p (after l (ledgerCall p l d)) calls c
 
+-- a mark as something that is there or not
 abbrev flagged : Bool → Option (Unit {0})
 flagged true = some tt
 flagged false = none
 
--- the state after a call that leads to `q`
-moved : (l : Ledger) {o q : Checked (Served Ledger)} → o ≡ q → after l o ≡ after l q
-moved l e = ap (λ (o : Checked (Served Ledger)). after l o) e
+unflag : (m : Bool) → flagged m ≡ some tt → m ≡ true
+unflag true h = refl
+unflag false h = absurd (Option·none-ne-some tt h)
 
 -- a reply holds a technology's block exactly if the call names it and the profile has it
 pub reply-holds : (p : Profile) (wanted : Technology → Bool) (t : Technology) → Has (technologyId t) (blocksOf (capabilityReply p wanted)) ↔ (shows p wanted t ≡ true)
@@ -69,124 +71,103 @@ module _ (p : Profile) where
   abbrev pub InForce : Account
   InForce calls t x = held p calls t .inForce ≡ some x
 
+  -- the ledger after a call that leads to `o`
+  held-after : (before : List Call) (c : Call) {o : Checked (Served Ledger)} → ledgerCall p (held p before) c ≡ o → held p (before ++ c ∷ []) ≡ after (held p before) o
+  held-after before c e = state-snoc p nothing before c ∙ ap (λ (o : Checked (Served Ledger)). after (held p before) o) e
+
   module _ (t : Technology) where
-    -- ---- the mark
+    given-counts : {c : Call} → GivesOut p t c → Counts p c
+    given-counts (inReply r a h) = inl (request, (r, a))
+    given-counts (inAdvertisement d h) = inr d
 
-    abbrev mark : List Call → Option (Unit {0})
-    mark calls = flagged (held p calls t .mark)
+    -- a Configuration or a Stop gives out nothing
+    none-given : {k : Kind} {c : Call} {r : Record} → Accepted p k c r → (rank k ≡ 0 → ⊥) → GivesOut p t c → ⊥
+    none-given a f (inReply q b h) = f (same-kind a b)
+    none-given a f (inAdvertisement d h) = no-advertisement d a
 
-    -- a Stop that ends its ranging, of a technology that this bars
-    record Bars (before : List Call) (c : Call) : Type 0 where
-      pub barring : bars t ≡ true
-      pub ends : Ends p InForce t before c
+    -- ---- the mark, of a technology that a Stop bars
 
-    abbrev Puts : List Call → Call → Unit {0} → Type 0
-    Puts before c u = Bars before c
+    module _ (barring : bars t ≡ true) where
+      abbrev mark : List Call → Option (Unit {0})
+      mark calls = flagged (held p calls t .mark)
 
-    module _ (before : List Call) (c : Call) where
-      abbrev l : Ledger
-      l = held p before
+      abbrev Puts : List Call → Call → Unit {0} → Type 0
+      Puts before c u = Ends p InForce t before c
 
-      marked-by : {k : Ledger} → after l (ledgerCall p l c) ≡ k → mark (before ++ c ∷ []) ≡ flagged (k t .mark)
-      marked-by e = ap (λ (k : Ledger). flagged (k t .mark)) (state-snoc p nothing before c ∙ e)
+      module _ (before : List Call) (c : Call) where
+        abbrev l : Ledger
+        l = held p before
 
-      given : (has : Technology → Bool) → after l (ledgerCall p l c) ≡ ledgerKeeps .give has l → (has t ≡ true → GivesOut p t c) → (GivesOut p t c → has t ≡ true) → (Bars before c → ⊥) → Turn mark Puts (GivesOut p t) before c
-      given has e to from un = by-bool (has t)
-          (λ y. inr (inl (record { drops = to y; unput = λ u. un; now = marked-by e ∙ rw (y, and-false (l t .mark)) })))
-          (λ n. inr (inr (record { kept = λ g. clash (from g) n; unput = λ u. un; now = marked-by e ∙ rw (n, Bool·and-true (l t .mark)) })))
+        marked : {o : Checked (Served Ledger)} → ledgerCall p l c ≡ o → mark (before ++ c ∷ []) ≡ flagged (after l o t .mark)
+        marked e = ap (λ (k : Ledger). flagged (k t .mark)) (held-after before c e)
 
-      left : after l (ledgerCall p l c) t .mark ≡ l t .mark → (GivesOut p t c → ⊥) → (Bars before c → ⊥) → Turn mark Puts (GivesOut p t) before c
-      left e k un = inr (inr (record { kept = k; unput = λ u. un; now = ap (λ (k : Ledger). flagged (k t .mark)) (state-snoc p nothing before c) ∙ ap flagged e }))
+        put-mark : (u : Unit {0}) → Puts before c u → mark (before ++ c ∷ []) ≡ some u
+        unfolding endedBy
+        put-mark u e = marked (accepted-gives p l (e .stops .accepted)) ∙ rw (barring, e .stops .named, e .ranged, or-true (l t .mark))
 
-      turn-mark : Happened p l c → Turn mark Puts (GivesOut p t) before c
-      unfolding endedBy
-      turn-mark (refused x e na nd) = left (ap (λ (k : Ledger). k t .mark) (moved l e)) none-given (λ h. na stop (h .ends .stops .content) (h .ends .stops .accepted))
-        where
-          none-given : GivesOut p t c → ⊥
-          none-given (inReply r a h) = na request r a
-          none-given (inAdvertisement d h) = nd d
-      turn-mark (asked r a e) = given (shows p (names (r .set))) (moved l e) (λ y. inReply r a (reply-holds p (names (r .set)) t .1 y)) shown (λ h. no-request-stop a (h .ends .stops .accepted))
-        where
-          shown : GivesOut p t c → shows p (names (r .set)) t ≡ true
-          shown (inReply q b h) = ap (λ (x : Record). shows p (names (x .set)) t) (same-content a b) ∙ reply-holds p (names (q .set)) t .0 h
-          shown (inAdvertisement d h) = absurd (no-advertisement d a)
-      turn-mark (advertised d e) = given (shows p (λ t. true)) (moved l e) (λ y. inAdvertisement d (reply-holds p (λ t. true) t .1 y)) shown (λ h. no-advertisement d (h .ends .stops .accepted))
-        where
-          shown : GivesOut p t c → shows p (λ t. true) t ≡ true
-          shown (inReply r a h) = absurd (no-advertisement d a)
-          shown (inAdvertisement f h) = reply-holds p (λ t. true) t .0 h
-      turn-mark (configured r a e) = left (ap (λ (k : Ledger). k t .mark) (moved l e)) none-given (λ h. no-configuration-stop a (h .ends .stops .accepted))
-        where
-          none-given : GivesOut p t c → ⊥
-          none-given (inReply q b h) = no-request-configuration b a
-          none-given (inAdvertisement d h) = no-advertisement d a
-      turn-mark (stopped r a e) = by-bool (bars t && (names (r .set) t && isSome (l t .inForce)))
-          (λ y.
-          let z = and-true (bars t) (names (r .set) t && isSome (l t .inForce)) y in
-          let w = and-true (names (r .set) t) (isSome (l t .inForce)) (z .1) in
-          some-of (l t .inForce) (w .1) (λ x q. inl (record {
-            content = tt;
-            puts = record { barring = z .0; ends = record { stops = record { content = r; accepted = a; named = w .0 }; settings = x; ranged = q } };
-            only = λ u h. refl;
-            now = marked-by (moved l e) ∙ rw (y, or-true (l t .mark));
-          })))
-          (λ n. left (ap (λ (k : Ledger). k t .mark) (moved l e) ∙ rw (n, or-false (l t .mark))) none-given
-          (λ h. clash (both (h .barring) (both (ap (λ (x : Record). names (x .set) t) (same-content a (h .ends .stops .accepted)) ∙ h .ends .stops .named) (is-some (h .ends .ranged)))) n))
-        where
-          none-given : GivesOut p t c → ⊥
-          none-given (inReply q b h) = no-request-stop b a
-          none-given (inAdvertisement d h) = no-advertisement d a
+        given : (wanted : Technology → Bool) → ledgerCall p l c ≡ accept (giveOut onLedger p wanted l) → (shows p wanted t ≡ true → GivesOut p t c) → (GivesOut p t c → shows p wanted t ≡ true) → (Ends p InForce t before c → ⊥) → Turn mark Puts (GivesOut p t) before c
+        given wanted e to from un = by-bool (shows p wanted t)
+            (λ y. drops (to y) (marked e ∙ rw (y, and-false (l t .mark))))
+            (λ n. leaves (λ g. clash (from g) n) (λ u. un) (marked e ∙ rw (n, Bool·and-true (l t .mark))))
 
-    turns : (before : List Call) (c : Call) → Turn mark Puts (GivesOut p t) before c
-    turns before c = turn-mark before c (happened p (held p before) c)
+        turn-mark : Happened p l c → Turn mark Puts (GivesOut p t) before c
+        unfolding endedBy
+        turn-mark (declined x e) = leaves (λ g. refused-not p l e (given-counts g)) (λ u h. refused-not p l e (inl (stop, (_, h .stops .accepted)))) (marked e)
+        turn-mark (served request r a) = given (names (r .set)) (accepted-gives p l a) (λ y. inReply r a (reply-holds p (names (r .set)) t .1 y)) shown (λ h. omega (arith, same-kind a (h .stops .accepted)))
+          where
+            shown : GivesOut p t c → shows p (names (r .set)) t ≡ true
+            shown (inReply q b h) = ap (λ (x : Record). shows p (names (x .set)) t) (same-content a b) ∙ reply-holds p (names (q .set)) t .0 h
+            shown (inAdvertisement d h) = absurd (no-advertisement d a)
+        turn-mark (served configuration r a) = leaves (none-given a (λ e. omega (arith, e))) (λ u h. omega (arith, same-kind a (h .stops .accepted))) (marked (accepted-gives p l a))
+        turn-mark (served stop r a) = by-bool (names (r .set) t && isSome (l t .inForce))
+            (λ y.
+            let w = and-true (names (r .set) t) (isSome (l t .inForce)) y in
+            some-of (l t .inForce) (w .1) (λ x q. puts tt (record { stops = record { content = r; accepted = a; named = w .0 }; settings = x; ranged = q })))
+            (λ n. leaves (none-given a (λ e. omega (arith, e)))
+            (λ u h. clash (both (ap (λ (x : Record). names (x .set) t) (same-content a (h .stops .accepted)) ∙ h .stops .named) (is-some (h .ranged))) n)
+            (marked (accepted-gives p l a) ∙ rw (barring, n, or-false (l t .mark))))
+        turn-mark (advertised d) = given (λ t. true) (advertised-gives p l d) (λ y. inAdvertisement d (reply-holds p (λ t. true) t .1 y)) shown (λ h. no-advertisement d (h .stops .accepted))
+          where
+            shown : GivesOut p t c → shows p (λ t. true) t ≡ true
+            shown (inReply r a h) = absurd (no-advertisement d a)
+            shown (inAdvertisement f h) = reply-holds p (λ t. true) t .0 h
 
-    -- the mark stands exactly if a Stop has ended its ranging since its capabilities were last given out
-    pub barred-marked : bars t ≡ true → (calls : List Call) → Barred p InForce t calls → held p calls t .mark ≡ true
-    barred-marked y calls b = unflag (held p calls t .mark) (ap mark (b .split) ∙ whole)
-      where
-        unflag : (m : Bool) → flagged m ≡ some tt → m ≡ true
-        unflag true h = refl
-        unflag false h = absurd (Option·none-ne-some tt h)
+      turns : (before : List Call) (c : Call) → Turn mark Puts (GivesOut p t) before c
+      turns before c = turn-mark before c (happened p (held p before) c)
 
-        put : Turn mark Puts (GivesOut p t) (b .before) (b .at) → mark (b .before ++ b .at ∷ []) ≡ some tt
-        put (inl q) = q .now
-        put (inr (inl d)) = absurd (d .unput tt (record { barring = y; ends = b .ends }))
-        put (inr (inr k)) = absurd (k .unput tt (record { barring = y; ends = b .ends }))
+      -- it stands exactly if a Stop has ended its ranging since its capabilities were last given out
+      barred-marked : (calls : List Call) → Barred p InForce t calls → held p calls t .mark ≡ true
+      barred-marked calls b =
+          unflag (held p calls t .mark) (ap mark (b .split ∙ sym (append-assoc (b .before) (b .at ∷ []) (b .since)))
+          ∙ stays mark Puts (GivesOut p t) turns put-mark (λ u v. refl) (b .since) (b .before ++ b .at ∷ []) tt (b .withheld) (put-mark (b .before) (b .at) tt (b .ends)))
 
-        whole : mark (b .before ++ b .at ∷ b .since) ≡ some tt
-        whole = ap mark (sym (append-assoc (b .before) (b .at ∷ []) (b .since))) ∙ stays mark Puts (GivesOut p t) turns (λ u v. refl) (b .since) (b .before ++ b .at ∷ []) tt (b .withheld) (put (turns (b .before) (b .at)))
-
-    pub marked-barred : (calls : List Call) → held p calls t .mark ≡ true → (bars t ≡ true) × Barred p InForce t calls
-    unfolding nothing
-    marked-barred calls h =
-        let q = by-history mark Puts (GivesOut p t) turns refl calls tt .0 (ap flagged h) in
-        let u = q .puts in
-        (u .barring, record { before = q .before; at = q .at; since = q .later; split = q .split; ends = u .ends; withheld = q .kept })
+      marked-barred : (calls : List Call) → held p calls t .mark ≡ true → Barred p InForce t calls
+      unfolding nothing
+      marked-barred calls h =
+          let q = by-history mark Puts (GivesOut p t) turns put-mark refl calls tt .0 (ap flagged h) in
+          record { before = q .before; at = q .at; since = q .later; split = q .split; ends = q .put; withheld = q .kept }
 
     -- ---- what a Configuration sets
 
-    freed : (before : List Call) → held p before t .mark ≡ false → bars t ≡ true → Barred p InForce t before → ⊥
-    freed before n y b = clash (barred-marked y before b) n
-
     unmarked : (before : List Call) → (bars t ≡ true → Barred p InForce t before → ⊥) → held p before t .mark ≡ false
-    unmarked before f = by-bool (held p before t .mark) (λ y. let q = marked-barred before y in absurd (f (q .0) (q .1))) (λ n. n)
+    unmarked before f = by-bool (bars t) (λ y. by-bool (held p before t .mark) (λ m. absurd (f y (marked-barred y before m))) (λ n. n)) (regular p t before .free)
 
     -- an accepted Configuration sets it exactly if the rules say so
     module _ (before : List Call) (c : Call) (r : Record) (a : Accepted p configuration c r) where
-      pub rule : (x : Settings t) → Sets p InForce t before c x → setBy ledgerKeeps p (r .set) (r .configuration) (held p before) t ≡ true
-      unfolding setBy sets
+      pub rule : (x : Settings t) → Sets p InForce t before c x → setBy onLedger p (r .set) (r .configuration) (held p before) t ≡ true
+      unfolding setBy eligible
       rule x h =
           let q = sym (same-content a (h .accepted)) in
-          subst (λ (y : Record). (names (y .set) t && (names (p .set) t && (within t (capabilityIn (p .capability) t) (settingsIn (y .configuration) t) && not (held p before t .mark)))) ≡ true) q
+          subst (λ (y : Record). (names (y .set) t && (names (p .set) t && (withinProfile t (capabilityIn (p .capability) t) (settingsIn (y .configuration) t) && not (held p before t .mark)))) ≡ true) q
           (both (h .named) (both (h .has) (both (h .fit) (rw (unmarked before (h .free))))))
 
-      pub ruled : setBy ledgerKeeps p (r .set) (r .configuration) (held p before) t ≡ true → Sets p InForce t before c (settingsIn (r .configuration) t)
-      unfolding setBy sets
+      pub ruled : setBy onLedger p (r .set) (r .configuration) (held p before) t ≡ true → Sets p InForce t before c (settingsIn (r .configuration) t)
+      unfolding setBy eligible
       ruled h =
           let u = and-true (names (r .set) t) _ h in
           let v = and-true (names (p .set) t) _ (u .1) in
-          let w = and-true (within t (capabilityIn (p .capability) t) (settingsIn (r .configuration) t)) (not (held p before t .mark)) (v .1) in
-          record { content = r; accepted = a; named = u .0; has = v .0; fit = w .0; free = freed before (not-true (held p before t .mark) (w .1)); settings = refl }
+          let w = and-true (withinProfile t (capabilityIn (p .capability) t) (settingsIn (r .configuration) t)) (not (held p before t .mark)) (v .1) in
+          record { content = r; accepted = a; named = u .0; has = v .0; fit = w .0; free = λ y b. clash (barred-marked y before b) (not-true (held p before t .mark) (w .1)); settings = refl }
 
     -- ---- the settings in force, of a technology that the tag ranges with
 
@@ -198,69 +179,35 @@ module _ (p : Profile) where
         abbrev k : Ledger
         k = held p before
 
-        abbrev Moves : Type 0
-        Moves = Turn force (Sets p InForce t) (Stops p t) before c
+        forced : {o : Checked (Served Ledger)} → ledgerCall p k c ≡ o → force (before ++ c ∷ []) ≡ after k o t .inForce
+        forced e = ap (λ (m : Ledger). m t .inForce) (held-after before c e)
 
-        leaves : after k (ledgerCall p k c) t .inForce ≡ k t .inForce → (Stops p t c → ⊥) → ((x : Settings t) → Sets p InForce t before c x → ⊥) → Moves
-        leaves e f g = inr (inr (record { kept = f; unput = g; now = ap (λ (m : Ledger). m t .inForce) (state-snoc p nothing before c) ∙ e }))
+        put-force : (x : Settings t) → Sets p InForce t before c x → force (before ++ c ∷ []) ≡ some x
+        put-force x s = forced (accepted-gives p k (s .accepted)) ∙ rw (ranging, rule before c (s .content) (s .accepted) x s, s .settings)
 
-        forced-by : {m : Ledger} → after k (ledgerCall p k c) ≡ m → force (before ++ c ∷ []) ≡ m t .inForce
-        forced-by e = ap (λ (m : Ledger). m t .inForce) (state-snoc p nothing before c ∙ e)
-
-        turn-force : Happened p k c → Moves
+        turn-force : Happened p k c → Turn force (Sets p InForce t) (Stops p t) before c
         unfolding endedBy
-        turn-force (refused x e na nd) = leaves (ap (λ (m : Ledger). m t .inForce) (moved k e)) (λ s. na stop (s .content) (s .accepted)) (λ x s. na configuration (s .content) (s .accepted))
-        turn-force (asked r a e) = leaves (ap (λ (m : Ledger). m t .inForce) (moved k e)) (λ s. no-request-stop a (s .accepted)) (λ x s. no-request-configuration a (s .accepted))
-        turn-force (advertised d e) = leaves (ap (λ (m : Ledger). m t .inForce) (moved k e)) (λ s. no-advertisement d (s .accepted)) (λ x s. no-advertisement d (s .accepted))
-        turn-force (configured r a e) = by-bool (setBy ledgerKeeps p (r .set) (r .configuration) k t)
-            (λ y. inl (record {
-              content = settingsIn (r .configuration) t;
-              puts = ruled before c r a y;
-              only = λ x s. ap (λ (q : Record). settingsIn (q .configuration) t) (same-content a (s .accepted)) ∙ s .settings;
-              now = forced-by (moved k e) ∙ rw (ranging, y);
-            }))
-            (λ n. leaves (ap (λ (m : Ledger). m t .inForce) (moved k e) ∙ rw (ranging, n)) (λ s. no-configuration-stop a (s .accepted)) (λ x s. clash (rule before c r a x s) n))
-        turn-force (stopped r a e) = by-bool (names (r .set) t)
-            (λ y. inr (inl (record {
-              drops = record { content = r; accepted = a; named = y };
-              unput = λ x s. no-configuration-stop (s .accepted) a;
-              now = forced-by (moved k e) ∙ gone (names (r .set) t) (k t .inForce) y;
-            })))
-            (λ n. leaves (ap (λ (m : Ledger). m t .inForce) (moved k e) ∙ rw n) (λ s. clash (ap (λ (q : Record). names (q .set) t) (same-content a (s .accepted)) ∙ s .named) n) (λ x s. no-configuration-stop (s .accepted) a))
+        turn-force (declined x e) = leaves (λ s. refused-not p k e (inl (stop, (_, s .accepted)))) (λ x s. refused-not p k e (inl (configuration, (_, s .accepted)))) (forced e)
+        turn-force (served request r a) = leaves (λ s. omega (arith, same-kind a (s .accepted))) (λ x s. omega (arith, same-kind a (s .accepted))) (forced (accepted-gives p k a))
+        turn-force (served configuration r a) = by-bool (setBy onLedger p (r .set) (r .configuration) k t)
+            (λ y. puts (settingsIn (r .configuration) t) (ruled before c r a y))
+            (λ n. leaves (λ s. omega (arith, same-kind a (s .accepted))) (λ x s. clash (rule before c r a x s) n) (forced (accepted-gives p k a) ∙ rw (ranging, n)))
+        turn-force (served stop r a) = by-bool (names (r .set) t)
+            (λ y. drops (record { content = r; accepted = a; named = y }) (forced (accepted-gives p k a) ∙ gone (names (r .set) t) (k t .inForce) y))
+            (λ n. leaves (λ s. clash (ap (λ (q : Record). names (q .set) t) (same-content a (s .accepted)) ∙ s .named) n) (λ x s. omega (arith, same-kind a (s .accepted))) (forced (accepted-gives p k a) ∙ rw n))
+        turn-force (advertised d) = leaves (λ s. no-advertisement d (s .accepted)) (λ x s. no-advertisement d (s .accepted)) (forced (advertised-gives p k d))
 
       told : (calls : List Call) (x : Settings t) → InForce calls t x ↔ LastSet p InForce t calls x
       unfolding nothing
       told calls x =
-          let h = by-history force (Sets p InForce t) (Stops p t) (λ before c. turn-force before c (happened p (held p before) c)) refl calls x in (
-            λ e. let q = h .0 e in record { before = q .before; at = q .at; later = q .later; split = q .split; set = q .puts; last = q .last; kept = q .kept },
-            λ q. h .1 (record { before = q .before; at = q .at; later = q .later; split = q .split; puts = q .set; last = q .last; kept = q .kept }),
+          let h = by-history force (Sets p InForce t) (Stops p t) (λ before c. turn-force before c (happened p (held p before) c)) put-force refl calls x in (
+            λ e. let q = h .0 e in record { before = q .before; at = q .at; later = q .later; split = q .split; set = q .put; last = q .last; kept = q .kept },
+            λ q. h .1 (record { before = q .before; at = q .at; later = q .later; split = q .split; put = q .set; last = q .last; kept = q .kept }),
           )
-
-    -- ---- and of one that it does not range with
-
-    module _ (still : ranges t ≡ false) where
-      none-of : {A : Type 0} (v : Bool) {o : Option A} → o ≡ none → cond v none o ≡ none
-      none-of true h = refl
-      none-of false h = h
-
-      stays-none : (l : Ledger) (c : Call) → l t .inForce ≡ none → Happened p l c → after l (ledgerCall p l c) t .inForce ≡ none
-      stays-none l c h (refused x e na nd) = ap (λ (m : Ledger). m t .inForce) (moved l e) ∙ h
-      stays-none l c h (asked r a e) = ap (λ (m : Ledger). m t .inForce) (moved l e) ∙ h
-      stays-none l c h (advertised d e) = ap (λ (m : Ledger). m t .inForce) (moved l e) ∙ h
-      stays-none l c h (configured r a e) = ap (λ (m : Ledger). m t .inForce) (moved l e) ∙ (rw still h)
-      stays-none l c h (stopped r a e) = ap (λ (m : Ledger). m t .inForce) (moved l e) ∙ none-of (endedBy ledgerKeeps p (r .set) l t) h
-
-      none-after : (calls : List Call) (l : Ledger) → l t .inForce ≡ none → stateAfter (ledgerCall p) l calls t .inForce ≡ none
-      none-after [] l h = h
-      none-after (c ∷ calls) l h = none-after calls (after l (ledgerCall p l c)) (stays-none l c h (happened p l c))
-
-      never : (calls : List Call) (x : Settings t) → InForce calls t x → ⊥
-      unfolding nothing
-      never calls x e = Option·none-ne-some x (sym (none-after calls nothing refl) ∙ e)
 
   -- what the ledger holds is told by the words
   pub in-words : Words p InForce
-  in-words = record { told = told; never = never }
+  in-words = record { told = told; never = λ t still calls x e. Option·none-ne-some x (sym (regular p t calls .still still) ∙ e) }
 
 -- ---- the words leave nothing open: two accounts that keep to them are the same
 
@@ -333,7 +280,7 @@ module _ (p : Profile) where
 
   -- what an accepted Configuration sets by the rules is what it sets in these words
   pub set-in-words : (R : Account) → Words p R → (calls : List Call) (c : Call) (r : Record) → Accepted p configuration c r → (t : Technology)
-      → (setBy ledgerKeeps p (r .set) (r .configuration) (held p calls) t ≡ true) ↔ Sets p R t calls c (settingsIn (r .configuration) t)
+      → (setBy onLedger p (r .set) (r .configuration) (held p calls) t ≡ true) ↔ Sets p R t calls c (settingsIn (r .configuration) t)
   set-in-words R w calls c r a t =
       let q = same (InForce p) R (in-words p) w (length calls) in
       let l : length calls ≤ length calls = omega arith in

@@ -8,35 +8,21 @@ use Rattle.session.specs.Rules.{Call}
 use Rattle.session.specs.History.{Never}
 
 module _ {A : Type 0} (value : List Call → Option A) (Puts : List Call → Call → A → Type 0) (Drops : Call → Type 0) where
-  pub record Put (before : List Call) (c : Call) : Type 0 where
-    pub content : A
-    pub puts : Puts before c content
-    pub only : (y : A) → Puts before c y → content ≡ y
-    pub now : value (before ++ c ∷ []) ≡ some content
-
-  pub record Dropped (before : List Call) (c : Call) : Type 0 where
-    pub drops : Drops c
-    pub unput : (y : A) → Puts before c y → ⊥
-    pub now : value (before ++ c ∷ []) ≡ none
-
-  pub record Left (before : List Call) (c : Call) : Type 0 where
-    pub kept : Drops c → ⊥
-    pub unput : (y : A) → Puts before c y → ⊥
-    pub now : value (before ++ c ∷ []) ≡ value before
-
-  abbrev pub Turn : List Call → Call → Type 0
-  Turn before c = Put before c ⊎ (Dropped before c ⊎ Left before c)
+  pub data Turn (before : List Call) (c : Call) : Type 0 where
+    puts : (x : A) → Puts before c x → Turn before c
+    drops : Drops c → value (before ++ c ∷ []) ≡ none → Turn before c
+    leaves : (Drops c → ⊥) → ((x : A) → Puts before c x → ⊥) → value (before ++ c ∷ []) ≡ value before → Turn before c
 
   pub record Last (calls : List Call) (x : A) : Type 0 where
     pub before : List Call
     pub at : Call
     pub later : List Call
     pub split : calls ≡ before ++ at ∷ later
-    pub puts : Puts before at x
+    pub put : Puts before at x
     pub last : Never Puts (before ++ at ∷ []) later
     pub kept : Each (λ c. Drops c → ⊥) later
 
-  module _ (turn : (before : List Call) (c : Call) → Turn before c) where
+  module _ (turn : (before : List Call) (c : Call) → Turn before c) (now : (before : List Call) (c : Call) (x : A) → Puts before c x → value (before ++ c ∷ []) ≡ some x) where
     one-more : (done : List Call) (c : Call) (rest : List Call) → (done ++ c ∷ []) ++ rest ≡ done ++ c ∷ rest
     one-more done c rest = append-assoc done (c ∷ []) rest
 
@@ -45,9 +31,9 @@ module _ {A : Type 0} (value : List Call → Option A) (Puts : List Call → Cal
     untouched (c ∷ rest) done n k = ap value (sym (one-more done c rest)) ∙ (untouched rest (done ++ c ∷ []) (n .1) (k .1) ∙ go (turn done c))
       where
         go : Turn done c → value (done ++ c ∷ []) ≡ value done
-        go (inl p) = absurd (n .0 (p .content) (p .puts))
-        go (inr (inl d)) = absurd (k .0 (d .drops))
-        go (inr (inr l)) = l .now
+        go (puts x p) = absurd (n .0 x p)
+        go (drops d e) = absurd (k .0 d)
+        go (leaves d p e) = e
 
     -- with one value only, it stays until a call drops it
     pub stays : ((a b : A) → a ≡ b) → (rest done : List Call) (x : A) → Each (λ c. Drops c → ⊥) rest → value done ≡ some x → value (done ++ rest) ≡ some x
@@ -55,19 +41,14 @@ module _ {A : Type 0} (value : List Call → Option A) (Puts : List Call → Cal
     stays one (c ∷ rest) done x k h = ap value (sym (one-more done c rest)) ∙ stays one rest (done ++ c ∷ []) x (k .1) (go (turn done c))
       where
         go : Turn done c → value (done ++ c ∷ []) ≡ some x
-        go (inl p) = p .now ∙ ap (λ (y : A). some y) (one (p .content) x)
-        go (inr (inl d)) = absurd (k .0 (d .drops))
-        go (inr (inr l)) = l .now ∙ h
+        go (puts y p) = now done c y p ∙ ap (λ (y : A). some y) (one y x)
+        go (drops d e) = absurd (k .0 d)
+        go (leaves d p e) = e ∙ h
 
     from-last : (calls : List Call) (x : A) → Last calls x → value calls ≡ some x
     from-last calls x l =
         ap value (l .split ∙ sym (one-more (l .before) (l .at) (l .later)))
-        ∙ (untouched (l .later) (l .before ++ l .at ∷ []) (l .last) (l .kept) ∙ go (turn (l .before) (l .at)))
-      where
-        go : Turn (l .before) (l .at) → value (l .before ++ l .at ∷ []) ≡ some x
-        go (inl p) = p .now ∙ ap (λ (y : A). some y) (p .only x (l .puts))
-        go (inr (inl d)) = absurd (d .unput x (l .puts))
-        go (inr (inr k)) = absurd (k .unput x (l .puts))
+        ∙ (untouched (l .later) (l .before ++ l .at ∷ []) (l .last) (l .kept) ∙ now (l .before) (l .at) x (l .put))
 
     abbrev Quiet : List Call → List Call → A → Type 0
     Quiet done rest x = Never Puts done rest × Each (λ c. Drops c → ⊥) rest × (value done ≡ some x)
@@ -77,17 +58,10 @@ module _ {A : Type 0} (value : List Call → Option A) (Puts : List Call → Cal
     to-last (c ∷ rest) done x h = pick (to-last rest (done ++ c ∷ []) x (ap value (one-more done c rest) ∙ h))
       where
         here : Quiet (done ++ c ∷ []) rest x → Turn done c → Last (done ++ c ∷ rest) x ⊎ Quiet done (c ∷ rest) x
-        here q (inl p) = inl (record {
-          before = done;
-          at = c;
-          later = rest;
-          split = refl;
-          puts = subst (Puts done c) (Option·some-injective (p .content) x (sym (p .now) ∙ q .2)) (p .puts);
-          last = q .0;
-          kept = q .1;
-        })
-        here q (inr (inl d)) = absurd (Option·none-ne-some x (sym (d .now) ∙ q .2))
-        here q (inr (inr l)) = inr ((l .unput, q .0), (l .kept, q .1), sym (l .now) ∙ q .2)
+        here q (puts y p) = let e = Option·some-injective y x (sym (now done c y p) ∙ q .2) in
+            inl (record { before = done; at = c; later = rest; split = refl; put = subst (Puts done c) e p; last = q .0; kept = q .1 })
+        here q (drops d e) = absurd (Option·none-ne-some x (sym e ∙ q .2))
+        here q (leaves d p e) = inr ((p, q .0), (d, q .1), sym e ∙ q .2)
 
         pick : Last ((done ++ c ∷ []) ++ rest) x ⊎ Quiet (done ++ c ∷ []) rest x → Last (done ++ c ∷ rest) x ⊎ Quiet done (c ∷ rest) x
         pick (inl l) = inl (subst (λ (calls : List Call). Last calls x) (one-more done c rest) l)

@@ -1,185 +1,36 @@
 -- A list of calls from a fresh session: answers and buffers are the ledger's, and the session record is what the ledger holds.
 use Prim.Native.Nat.{ℕ}
-use mathlib.Core.Path.{_≡_, refl, sym, ap, subst, fun-ext, _∙_}
+use mathlib.Core.Path.{_≡_, refl, sym, subst}
 use mathlib.Core.List.{List, [], _∷_, map}
-use mathlib.Core.Option.{none, some}
-use mathlib.Core.Bool.{Bool, true, false, cond}
-use lib.Dec.{leb}
-use lib.ListN.{length}
-use Rattle.codec.specs.Refusal.{Checked, refuse, accept, demand, andThen, bufferTooShort, notValid}
-use Rattle.codec.specs.Message.{reading}
-use Rattle.codec.specs.declared.records.Configuration.{Configuration}
-use Rattle.codec.specs.declared.records.Record.{Record}
+use mathlib.Core.Bool.{true}
+use Rattle.codec.specs.Refusal.{Checked, refuse, accept}
 use Rattle.session.specs.declared.state.Profile.{Profile}
-use Rattle.session.specs.declared.state.UwbState.{UwbState}
-use Rattle.session.specs.declared.state.NanState.{NanState}
-use Rattle.session.specs.declared.state.RssiState.{RssiState}
+use Rattle.session.specs.declared.state.Answer.{Answer}
 use Rattle.session.specs.declared.state.Session.{Session}
-use Rattle.codec.specs.Technology.{Technology, uwb, cs, nan, rssi, names}
-use Rattle.session.specs.Rules.{Call, message, advertisement, lent, Kind, request, configuration, stop, other, kindOf, octetsOf, validProfile, shows, Served, conclude, after, giveOut, configure, setBy, endedBy, halt, serve, call, answerTo, bufferAfter}
-use Rattle.session.specs.Ledger.{Ledger, nothing, ledgerKeeps, ledgerCall, seenFrom, stateAfter}
-use Rattle.session.specs.Session.{yes, inForceIn, markIn, uwbPart, nanPart, rssiPart, sessionKeeps, sessionCall, Does, fresh}
+use Rattle.codec.specs.Technology.{Technology}
+use Rattle.session.specs.Rules.{Call, validProfile, Served, after, answerTo, bufferAfter}
+use Rattle.session.specs.Ledger.{Ledger, onLedger, ledgerCall, seenFrom, stateAfter}
+use Rattle.session.specs.Session.{onSession, sessionCall, Gives}
 use Rattle.session.specs.Trace.{Event, seenOf, Ran, callsOf}
 use Rattle.session.specs.Demand3.{sessionOf}
-use Rattle.session.proofs.Simulation.{through, call-through, ledgerOf, uwbForce, nanForce, rssiForce, session-follows}
-
--- ---- what every change of a session keeps, every call keeps
-
-module _ (P : Session → Type 0) (give : (has : Technology → Bool) (s : Session) → P s → P (sessionKeeps .give has s))
-    (put : (isSet : Technology → Bool) (c : Configuration) (s : Session) → P s → P (sessionKeeps .put isSet c s)) (end : (ended : Technology → Bool) (s : Session) → P s → P (sessionKeeps .stop ended s)) where
-  abbrev Of : Checked (Served Session) → Type 0
-  Of (refuse x) = Unit {0}
-  Of (accept v) = P (v .state)
-
-  concluded : (b : List ℕ) (v : Served Session) → P (v .state) → Of (conclude b v)
-  unfolding conclude
-  concluded b v h = go (leb (length (octetsOf (v .reply))) (length b))
-    where
-      go : (t : Bool) → Of (demand t bufferTooShort (accept v))
-      go true = h
-      go false = tt
-
-  module _ (s : Session) (h : P s) where
-    served-keeps : (k : Kind) (r : Record) (b : List ℕ) → Of (serve sessionKeeps (s .profile) k r s b)
-    unfolding serve
-    served-keeps request r b = concluded b (giveOut sessionKeeps (s .profile) (names (r .set)) s) (give (shows (s .profile) (names (r .set))) s h)
-    served-keeps configuration r b = concluded b (configure sessionKeeps (s .profile) (r .set) (r .configuration) s) (put (setBy sessionKeeps (s .profile) (r .set) (r .configuration) s) (r .configuration) s h)
-    served-keeps stop r b = concluded b (halt sessionKeeps (s .profile) (r .set) s) (end (endedBy sessionKeeps (s .profile) (r .set) s) s h)
-    served-keeps other r b = tt
-
-    call-keeps : (c : Call) → Of (call sessionKeeps (s .profile) s c)
-    unfolding call
-    call-keeps (message m b) = go (reading m)
-      where
-        go : (o : Checked Record) → Of (andThen o λ r. serve sessionKeeps (s .profile) (kindOf (r .id)) r s b)
-        go (refuse x) = tt
-        go (accept r) = served-keeps (kindOf (r .id)) r b
-    call-keeps (advertisement b) = concluded b (giveOut sessionKeeps (s .profile) (λ t. true) s) (give (shows (s .profile) (λ t. true)) s h)
-
-    after-keeps : (o : Checked (Served Session)) → Of o → P (after s o)
-    after-keeps (refuse x) k = h
-    after-keeps (accept v) k = k
-
-    kept : (c : Call) → P (after s (sessionCall s c))
-    unfolding sessionCall
-    kept c = go (validProfile (s .profile))
-      where
-        go : (t : Bool) → P (after s (demand t notValid (call sessionKeeps (s .profile) s c)))
-        go true = after-keeps (call sessionKeeps (s .profile) s c) (call-keeps c)
-        go false = h
-
--- ---- a session record that is what its ledger holds: flags of 0 or 1, and zero settings where nothing ranges
-
-abbrev Flag : ℕ → Type 0
-Flag m = m ≡ cond (yes m) 1 0
-
-abbrev UwbTidy : UwbState → Type 0
-UwbTidy u = u ≡ uwbPart (uwbForce u)
-
-abbrev NanTidy : NanState → Type 0
-NanTidy u = u ≡ nanPart (nanForce u)
-
-abbrev RssiTidy : RssiState → Type 0
-RssiTidy u = u ≡ rssiPart (rssiForce u)
-
-pub record Tidy (p : Profile) (s : Session) : Type 0 where
-  pub profile : s .profile ≡ p
-  pub uwb : UwbTidy (s .uwb)
-  pub nan : NanTidy (s .nan)
-  pub rssi : RssiTidy (s .rssi)
-  pub mark : Flag (s .mark)
-
-either : {A : Type 0} (P : A → Type 0) (b : Bool) (x y : A) → P x → P y → P (cond b x y)
-either P true x y h k = h
-either P false x y h k = k
+use Rattle.session.proofs.Regular.{Regular, regular-call}
+use Rattle.session.proofs.Simulation.{through, call-through, session-follows}
 
 module _ (p : Profile) where
-  pub fresh-tidy : Tidy p (fresh p)
-  fresh-tidy = record { profile = refl; uwb = refl; nan = refl; rssi = refl; mark = refl }
-
-  tidy-call : (s : Session) → Tidy p s → (c : Call) → Tidy p (after s (sessionCall s c))
-  tidy-call = kept (Tidy p)
-      (λ has s h. record { profile = h .profile; uwb = h .uwb; nan = h .nan; rssi = h .rssi; mark = either Flag (has uwb) 0 (s .mark) refl (h .mark) })
-      (λ isSet c s h. record {
-        profile = h .profile;
-        uwb = either UwbTidy (isSet uwb) (uwbPart (some (c .uwb))) (s .uwb) refl (h .uwb);
-        nan = either NanTidy (isSet nan) (nanPart (some (c .nan))) (s .nan) refl (h .nan);
-        rssi = either RssiTidy (isSet rssi) (rssiPart (some (c .rssi))) (s .rssi) refl (h .rssi);
-        mark = h .mark;
-      })
-      (λ ended s h. record {
-        profile = h .profile;
-        uwb = either UwbTidy (ended uwb) (uwbPart none) (s .uwb) refl (h .uwb);
-        nan = either NanTidy (ended nan) (nanPart none) (s .nan) refl (h .nan);
-        rssi = either RssiTidy (ended rssi) (rssiPart none) (s .rssi) refl (h .rssi);
-        mark = either Flag (ended uwb) 1 (s .mark) refl (h .mark);
-      })
-
-  pub tidy-is : (s : Session) → Tidy p s → s ≡ sessionOf p (ledgerOf s)
-  unfolding ledgerOf inForceIn markIn
-  tidy-is s h = λ i. record { profile = h .profile i; uwb = h .uwb i; nan = h .nan i; rssi = h .rssi i; mark = h .mark i }
-
--- ---- one call
-
-module _ (p : Profile) (v : validProfile p ≡ true) (s : Session) (h : s .profile ≡ p) (c : Call) where
-  valid-call : sessionCall s c ≡ call sessionKeeps (s .profile) s c
+  same-call : (l : Ledger) → ((t : Technology) → Regular t (l t)) → validProfile p ≡ true → (c : Call) → sessionCall (sessionOf p l) c ≡ through (sessionOf p) (ledgerCall p l c)
   unfolding sessionCall
-  valid-call = rw (ap validProfile h ∙ v)
+  same-call l h v c = rw v (call-through (sessionOf p) onLedger onSession p l (session-follows p l h) c)
 
-  same-call : through ledgerOf (sessionCall s c) ≡ ledgerCall p (ledgerOf s) c
-  same-call =
-      ap (through ledgerOf) valid-call
-      ∙ (call-through ledgerOf sessionKeeps ledgerKeeps session-follows (s .profile) s c
-      ∙ ap (λ (q : Profile). ledgerCall q (ledgerOf s) c) h)
+  -- what a call gives that leads to what a ledger's leads to
+  given : (l : Ledger) (o : Checked (Served Ledger)) {b e : List ℕ} {a : Answer} {n : Session} → Gives (sessionOf p l) (through (sessionOf p) o) b a n e → (a ≡ answerTo o) × (n ≡ sessionOf p (after l o)) × (e ≡ bufferAfter o b)
+  given l (refuse x) g = (g .answer, g .session, g .buffer)
+  given l (accept v) g = (g .answer, g .session, g .buffer)
 
-module _ (s : Session) where
-  answer-through : (o : Checked (Served Session)) → answerTo (through ledgerOf o) ≡ answerTo o
-  answer-through (refuse x) = refl
-  answer-through (accept v) = refl
-
-  buffer-through : (o : Checked (Served Session)) (b : List ℕ) → bufferAfter (through ledgerOf o) b ≡ bufferAfter o b
-  buffer-through (refuse x) b = refl
-  buffer-through (accept v) b = refl
-
-  after-through : (o : Checked (Served Session)) → after (ledgerOf s) (through ledgerOf o) ≡ ledgerOf (after s o)
-  after-through (refuse x) = refl
-  after-through (accept v) = refl
-
--- ---- a list of calls
-
-module _ (p : Profile) (v : validProfile p ≡ true) where
-  module _ (s : Session) (h : Tidy p s) (x : Event) (g : Does s (x .given) (x .answer) (x .session) (x .left)) where
-    next-tidy : Tidy p (x .session)
-    next-tidy = subst (Tidy p) (sym (g .session)) (tidy-call p s h (x .given))
-
-    next-ledger : ledgerOf (x .session) ≡ after (ledgerOf s) (ledgerCall p (ledgerOf s) (x .given))
-    next-ledger = ap ledgerOf (g .session) ∙ (sym (after-through s (sessionCall s (x .given))) ∙ ap (λ (o : Checked (Served Ledger)). after (ledgerOf s) o) (same-call p v s (h .profile) (x .given)))
-
-    seen : seenOf x ≡ record { answer = answerTo (ledgerCall p (ledgerOf s) (x .given)); buffer = bufferAfter (ledgerCall p (ledgerOf s) (x .given)) (lent (x .given)) }
-    seen = let o = sessionCall s (x .given) in rw (← same-call p v s (h .profile) (x .given), answer-through s o, buffer-through s o (lent (x .given)), ← g .answer, ← g .buffer)
-
-  pub answers-kept : (events : List Event) (s e : Session) → Tidy p s → Ran s events e → map seenOf events ≡ seenFrom (ledgerCall p) (ledgerOf s) (callsOf events)
-  answers-kept [] s e h r = refl
-  answers-kept (x ∷ events) s e h r =
-      let k = answers-kept events (x .session) e (next-tidy s h x (r .0)) (r .1) in
-      λ i. seen s h x (r .0) i ∷ (k ∙ ap (λ (l : Ledger). seenFrom (ledgerCall p) l (callsOf events)) (next-ledger s h x (r .0))) i
-
-  pub ledger-kept : (events : List Event) (s e : Session) → Tidy p s → Ran s events e → ledgerOf e ≡ stateAfter (ledgerCall p) (ledgerOf s) (callsOf events)
-  ledger-kept [] s e h r = ap ledgerOf (sym r)
-  ledger-kept (x ∷ events) s e h r = ledger-kept events (x .session) e (next-tidy s h x (r .0)) (r .1) ∙ ap (λ (l : Ledger). stateAfter (ledgerCall p) l (callsOf events)) (next-ledger s h x (r .0))
-
-  pub tidy-kept : (events : List Event) (s e : Session) → Tidy p s → Ran s events e → Tidy p e
-  tidy-kept [] s e h r = subst (Tidy p) r h
-  tidy-kept (x ∷ events) s e h r = tidy-kept events (x .session) e (next-tidy s h x (r .0)) (r .1)
-
--- ---- the start
-
-pub fresh-blank : (p : Profile) → ledgerOf (fresh p) ≡ nothing
-unfolding ledgerOf inForceIn markIn nothing
-fresh-blank p = fun-ext go
-  where
-    go : (t : Technology) → ledgerOf (fresh p) t ≡ nothing t
-    go uwb = refl
-    go cs = refl
-    go nan = refl
-    go rssi = refl
+  pub ran-as-ledger : validProfile p ≡ true → (events : List Event) (l : Ledger) (e : Session) → ((t : Technology) → Regular t (l t)) → Ran (sessionOf p l) events e
+      → (map seenOf events ≡ seenFrom (ledgerCall p) l (callsOf events)) × (e ≡ sessionOf p (stateAfter (ledgerCall p) l (callsOf events)))
+  ran-as-ledger v [] l e h r = (refl, sym r)
+  ran-as-ledger v (x ∷ events) l e h r =
+      let o = ledgerCall p l (x .given) in
+      let q = given l o (subst (λ (y : Checked (Served Session)). Gives (sessionOf p l) y (x .given .lent) (x .answer) (x .session) (x .left)) (same-call l h v (x .given)) (r .0)) in
+      let k = ran-as-ledger v events (after l o) e (λ t. regular-call p t l (x .given) (h t)) (subst (λ (s : Session). Ran s events e) (q .1) (r .1)) in
+      (λ i. record { answer = q .0 i; buffer = q .2 i } ∷ k .0 i, k .1)

@@ -1,148 +1,130 @@
--- A session read as a ledger: each call does to the one what it does to the other.
+-- The session record that says what a ledger holds: each call does to the one what it does to the other.
 use Prim.Native.Nat.{ℕ}
 use mathlib.Core.Path.{_≡_, refl, sym, ap, _∙_, fun-ext}
-use mathlib.Core.List.{List}
 use mathlib.Core.Option.{Option, none, some}
 use mathlib.Core.Bool.{Bool, true, false, cond, not, _&&_, _||_, and-true, and-false, or-true, or-false}
 use lib.Dec.{leb}
 use lib.ListN.{length}
-use Rattle.codec.specs.Refusal.{Checked, refuse, accept, demand, andThen, bufferTooShort}
+use Rattle.codec.specs.Refusal.{Checked, refuse, accept, andThen}
 use Rattle.codec.specs.Message.{reading}
-use Rattle.codec.specs.declared.uwb.UwbConfiguration.{UwbConfiguration}
-use Rattle.codec.specs.declared.nan.NanConfiguration.{NanConfiguration}
-use Rattle.codec.specs.declared.rssi.Rssi.{Rssi}
 use Rattle.codec.specs.declared.records.Configuration.{Configuration}
 use Rattle.codec.specs.declared.records.Record.{Record}
+use Rattle.codec.proofs.Outcomes.{by-bool}
 use Rattle.session.specs.declared.state.Profile.{Profile}
-use Rattle.session.specs.declared.state.UwbState.{UwbState}
-use Rattle.session.specs.declared.state.NanState.{NanState}
-use Rattle.session.specs.declared.state.RssiState.{RssiState}
-use Rattle.session.specs.declared.state.Session.{Session}
 use Rattle.codec.specs.Technology.{Technology, uwb, cs, nan, rssi, names}
-use Rattle.session.specs.Rules.{Call, message, advertisement, Kind, request, configuration, stop, other, kindOf, octetsOf, sets, Served, conclude, Keeps, giveOut, setBy, endedBy, serve, call}
-use Rattle.session.specs.Ledger.{Ledger, isSome, ledgerKeeps}
-use Rattle.session.specs.Session.{yes, inForceIn, rangingIn, markIn, uwbPart, nanPart, rssiPart, sessionKeeps}
+use Rattle.codec.specs.Records.{Settings, settingsIn}
+use Rattle.session.specs.Within.{ranges, bars}
+use Rattle.session.specs.Rules.{Said, message, advertisement, Call, Kind, request, configuration, stop, kindOf, octetsOf, eligible, chosen, Served, conclude, Operations, giveOut, setBy, endedBy, serve, respond, call}
+use Rattle.session.specs.Ledger.{Ledger, isSome, onLedger}
+use Rattle.session.specs.Session.{yes, flag, Part, partOf, partIn, markIn, sessionWith, inForceIn, onSession}
+use Rattle.session.specs.Demand3.{sessionOf}
+use Rattle.session.proofs.Regular.{Regular}
 
--- ---- a state read as another: what is asked of both agrees, and each change goes through
+-- ---- a state told by another: what is asked of both agrees, and each change goes through
 
-pub record Follows {S T : Type 0} (K : Keeps S) (M : Keeps T) (f : S → T) : Type 0 where
-  pub ranging : (s : S) (t : Technology) → K .ranging s t ≡ M .ranging (f s) t
-  pub barred : (s : S) (t : Technology) → K .barred s t ≡ M .barred (f s) t
-  pub give : (has : Technology → Bool) (s : S) → f (K .give has s) ≡ M .give has (f s)
-  pub put : (isSet : Technology → Bool) (c : Configuration) (s : S) → f (K .put isSet c s) ≡ M .put isSet c (f s)
-  pub stop : (ended : Technology → Bool) (s : S) → f (K .stop ended s) ≡ M .stop ended (f s)
+pub record Follows {S T : Type 0} (on : Operations S) (under : Operations T) (f : S → T) (s : S) : Type 0 where
+  pub ranging : (t : Technology) → under .ranging (f s) t ≡ on .ranging s t
+  pub barred : (t : Technology) → under .barred (f s) t ≡ on .barred s t
+  pub give : (has : Technology → Bool) → under .give has (f s) ≡ f (on .give has s)
+  pub put : (isSet : Technology → Bool) (c : Configuration) → under .put isSet c (f s) ≡ f (on .put isSet c s)
+  pub stop : (ended : Technology → Bool) → under .stop ended (f s) ≡ f (on .stop ended s)
 
 module _ {S T : Type 0} (f : S → T) where
+  abbrev carried : Served S → Served T
+  carried v = record { state = f (v .state); reply = v .reply; set = v .set; stopped = v .stopped }
+
   abbrev pub through : Checked (Served S) → Checked (Served T)
   through (refuse x) = refuse x
-  through (accept v) = accept (record { state = f (v .state); reply = v .reply; set = v .set; stopped = v .stopped })
+  through (accept v) = accept (carried v)
 
-  through-conclude : (b : List ℕ) (v : Served S) → through (conclude b v) ≡ conclude b (record { state = f (v .state); reply = v .reply; set = v .set; stopped = v .stopped })
-  unfolding conclude
-  through-conclude b v = go (leb (length (octetsOf (v .reply))) (length b))
-    where
-      go : (t : Bool) → through (demand t bufferTooShort (accept v)) ≡ demand t bufferTooShort (accept (record { state = f (v .state); reply = v .reply; set = v .set; stopped = v .stopped }))
-      go true = refl
-      go false = refl
+  module _ (on : Operations S) (under : Operations T) (p : Profile) (s : S) (F : Follows on under f s) where
+    give-through : (wanted : Technology → Bool) → giveOut under p wanted (f s) ≡ carried (giveOut on p wanted s)
+    give-through wanted = rw (F .give)
 
-  module _ (K : Keeps S) (M : Keeps T) (F : Follows K M f) (p : Profile) (s : S) (b : List ℕ) where
-    give-through : (wanted : Technology → Bool) → through (conclude b (giveOut K p wanted s)) ≡ conclude b (giveOut M p wanted (f s))
-    give-through wanted = through-conclude b _ ∙ rw (F .give)
-
-    set-same : (set : ℕ) (c : Configuration) → setBy K p set c s ≡ setBy M p set c (f s)
+    set-same : (set : ℕ) (c : Configuration) → setBy under p set c (f s) ≡ setBy on p set c s
     unfolding setBy
-    set-same set c = fun-ext (λ t. ap (λ (x : Bool). sets p set c t x) (F .barred s t))
+    set-same set c = ap (λ (barred : Technology → Bool). chosen (eligible p set c barred)) (fun-ext (F .barred))
 
-    ended-same : (set : ℕ) → endedBy K p set s ≡ endedBy M p set (f s)
+    ended-same : (set : ℕ) → endedBy under p set (f s) ≡ endedBy on p set s
     unfolding endedBy
-    ended-same set = fun-ext (λ t. ap (λ (x : Bool). names set t && x) (F .ranging s t))
+    ended-same set = fun-ext (λ t. ap (λ (x : Bool). names set t && x) (F .ranging t))
 
-    serve-through : (k : Kind) (r : Record) → through (serve K p k r s b) ≡ serve M p k r (f s) b
-    unfolding serve
+    serve-through : (k : Kind) (r : Record) → serve under p k r (f s) ≡ carried (serve on p k r s)
     serve-through request r = give-through (names (r .set))
-    serve-through configuration r = through-conclude b _ ∙ rw (F .put, set-same (r .set) (r .configuration))
-    serve-through stop r = through-conclude b _ ∙ rw (F .stop, ended-same (r .set))
-    serve-through other r = refl
+    serve-through configuration r = rw (set-same (r .set) (r .configuration), F .put)
+    serve-through stop r = rw (ended-same (r .set), F .stop)
 
-  pub call-through : (K : Keeps S) (M : Keeps T) → Follows K M f → (p : Profile) (s : S) (c : Call) → through (call K p s c) ≡ call M p (f s) c
-  unfolding call
-  call-through K M F p s (message m b) = go (reading m)
-    where
-      go : (o : Checked Record) → through (andThen o λ r. serve K p (kindOf (r .id)) r s b) ≡ (andThen o λ r. serve M p (kindOf (r .id)) r (f s) b)
-      go (refuse x) = refl
-      go (accept r) = serve-through K M F p s b (kindOf (r .id)) r
-  call-through K M F p s (advertisement b) = give-through K M F p s b (λ t. true)
+    respond-through : (x : Said) → respond under p (f s) x ≡ through (respond on p s x)
+    unfolding respond
+    respond-through (message m) = go (reading m)
+      where
+        by-kind : (r : Record) (o : Checked Kind) → (andThen o λ k. accept (serve under p k r (f s))) ≡ through (andThen o λ k. accept (serve on p k r s))
+        by-kind r (refuse x) = refl
+        by-kind r (accept k) = ap (λ (v : Served T). accept v) (serve-through k r)
 
--- ---- the session as a ledger
+        go : (o : Checked Record) → (andThen o λ r. andThen (kindOf (r .id)) λ k. accept (serve under p k r (f s))) ≡ through (andThen o λ r. andThen (kindOf (r .id)) λ k. accept (serve on p k r s))
+        go (refuse x) = refl
+        go (accept r) = by-kind r (kindOf (r .id))
+    respond-through advertisement = ap (λ (v : Served T). accept v) (give-through (λ t. true))
 
-unfoldable pub ledgerOf : Session → Ledger
-ledgerOf s t = record { inForce = inForceIn s t; mark = markIn s t }
+    pub call-through : (c : Call) → call under p (f s) c ≡ through (call on p s c)
+    unfolding call conclude
+    call-through c = ap (λ (o : Checked (Served T)). andThen o (conclude (c .lent))) (respond-through (c .said)) ∙ go (respond on p s (c .said))
+      where
+        go : (o : Checked (Served S)) → andThen (through o) (conclude (c .lent)) ≡ through (andThen o (conclude (c .lent)))
+        go (refuse x) = refl
+        go (accept v) = by-bool (leb (length (octetsOf (v .reply))) (length (c .lent))) (λ t. rw t) (λ t. rw t)
 
-is-some : {A : Type 0} (v : Bool) (a : A) → v ≡ isSome (cond v (some a) none)
-is-some true a = refl
-is-some false a = refl
+-- ---- a ledger's cell told by a part of the session record
 
-ranging-same : (s : Session) (t : Technology) → rangingIn s t ≡ isSome (inForceIn s t)
-unfolding rangingIn inForceIn
-ranging-same s uwb = is-some (yes (s .uwb .ranging)) (s .uwb .settings)
-ranging-same s cs = refl
-ranging-same s nan = is-some (yes (s .nan .ranging)) (s .nan .settings)
-ranging-same s rssi = is-some (yes (s .rssi .ranging)) (s .rssi .settings)
+part-ranging : (t : Technology) (o : Option (Settings t)) → yes (partOf {t = t} o .ranging) ≡ isSome o
+part-ranging t none = refl
+part-ranging t (some x) = refl
 
-cond-map : {A B : Type 0} (f : A → B) (v : Bool) (x y : A) → f (cond v x y) ≡ cond v (f x) (f y)
-cond-map f true x y = refl
-cond-map f false x y = refl
+part-force : (t : Technology) (o : Option (Settings t)) → cond (yes (partOf {t = t} o .ranging)) (some (partOf {t = t} o .settings)) none ≡ o
+part-force t none = refl
+part-force t (some x) = refl
 
-given-mark : (h : Bool) (m : ℕ) → yes (cond h 0 m) ≡ yes m && not h
-given-mark true m = sym (and-false (yes m))
-given-mark false m = sym (and-true (yes m))
+yes-flag : (m : Bool) → yes (flag m) ≡ m
+yes-flag true = refl
+yes-flag false = refl
 
-ended-mark : (h : Bool) (m : ℕ) → yes (cond h 1 m) ≡ yes m || h
-ended-mark true m = sym (or-true (yes m))
-ended-mark false m = sym (or-false (yes m))
+module _ (p : Profile) (l : Ledger) (h : (t : Technology) → Regular t (l t)) where
+  part-of : (t : Technology) → partIn (sessionOf p l) t ≡ partOf (l t .inForce)
+  part-of uwb = refl
+  part-of cs = ap partOf (sym (h cs .still refl))
+  part-of nan = refl
+  part-of rssi = refl
 
-none-either : {A : Type 0} (v : Bool) → _≡_ {A = Option A} none (cond v none none)
-none-either true = refl
-none-either false = refl
+  mark-of : (t : Technology) → markIn (sessionOf p l) t ≡ flag (l t .mark)
+  mark-of uwb = refl
+  mark-of cs = ap flag (sym (h cs .free refl))
+  mark-of nan = ap flag (sym (h nan .free refl))
+  mark-of rssi = ap flag (sym (h rssi .free refl))
 
--- the settings in force of each technology's part of the session
-abbrev pub uwbForce : UwbState → Option UwbConfiguration
-uwbForce u = cond (yes (u .ranging)) (some (u .settings)) none
+  pub in-force : (t : Technology) → inForceIn (sessionOf p l) t ≡ l t .inForce
+  in-force t = rw (part-of t) (part-force t (l t .inForce))
 
-abbrev pub nanForce : NanState → Option NanConfiguration
-nanForce u = cond (yes (u .ranging)) (some (u .settings)) none
+  part-changed : (t : Technology) (changed : Bool) (o : Option (Settings t)) → cond changed (partOf o) (partIn (sessionOf p l) t) ≡ partOf (cond changed o (l t .inForce))
+  part-changed t true o = refl
+  part-changed t false o = part-of t
 
-abbrev pub rssiForce : RssiState → Option Rssi
-rssiForce u = cond (yes (u .ranging)) (some (u .settings)) none
+  mark-given : (t : Technology) (given : Bool) → cond given 0 (markIn (sessionOf p l) t) ≡ flag (l t .mark && not given)
+  mark-given t true = ap flag (sym (and-false (l t .mark)))
+  mark-given t false = mark-of t ∙ ap flag (sym (and-true (l t .mark)))
 
-module _ (s : Session) where
-  given-cell : (has : Technology → Bool) (t : Technology) → ledgerOf (sessionKeeps .give has s) t ≡ ledgerKeeps .give has (ledgerOf s) t
-  unfolding ledgerOf inForceIn markIn
-  given-cell has uwb = λ i. record { inForce = inForceIn s uwb; mark = given-mark (has uwb) (s .mark) i }
-  given-cell has cs = refl
-  given-cell has nan = refl
-  given-cell has rssi = refl
+  mark-ended : (t : Technology) (ended : Bool) → cond ended 1 (markIn (sessionOf p l) t) ≡ flag (l t .mark || ended)
+  mark-ended t true = ap flag (sym (or-true (l t .mark)))
+  mark-ended t false = mark-of t ∙ ap flag (sym (or-false (l t .mark)))
 
-  put-cell : (isSet : Technology → Bool) (c : Configuration) (t : Technology) → ledgerOf (sessionKeeps .put isSet c s) t ≡ ledgerKeeps .put isSet c (ledgerOf s) t
-  unfolding ledgerOf inForceIn markIn
-  put-cell isSet c uwb = λ i. record { inForce = cond-map uwbForce (isSet uwb) (uwbPart (some (c .uwb))) (s .uwb) i; mark = yes (s .mark) }
-  put-cell isSet c cs = refl
-  put-cell isSet c nan = λ i. record { inForce = cond-map nanForce (isSet nan) (nanPart (some (c .nan))) (s .nan) i; mark = false }
-  put-cell isSet c rssi = λ i. record { inForce = cond-map rssiForce (isSet rssi) (rssiPart (some (c .rssi))) (s .rssi) i; mark = false }
+  with-same : {f g : (t : Technology) → Part t} {m n : Technology → ℕ} → ((t : Technology) → f t ≡ g t) → ((t : Technology) → m t ≡ n t) → sessionWith p f m ≡ sessionWith p g n
+  with-same e q = λ i. sessionWith p (λ t. e t i) (λ t. q t i)
 
-  stop-cell : (ended : Technology → Bool) (t : Technology) → ledgerOf (sessionKeeps .stop ended s) t ≡ ledgerKeeps .stop ended (ledgerOf s) t
-  unfolding ledgerOf inForceIn markIn
-  stop-cell ended uwb = λ i. record { inForce = cond-map uwbForce (ended uwb) (uwbPart none) (s .uwb) i; mark = ended-mark (ended uwb) (s .mark) i }
-  stop-cell ended cs = λ i. record { inForce = none-either (ended cs) i; mark = false }
-  stop-cell ended nan = λ i. record { inForce = cond-map nanForce (ended nan) (nanPart none) (s .nan) i; mark = false }
-  stop-cell ended rssi = λ i. record { inForce = cond-map rssiForce (ended rssi) (rssiPart none) (s .rssi) i; mark = false }
-
-pub session-follows : Follows sessionKeeps ledgerKeeps ledgerOf
-unfolding ledgerOf
-session-follows = record {
-  ranging = ranging-same;
-  barred = λ s t. refl;
-  give = λ has s. fun-ext (given-cell s has);
-  put = λ isSet c s. fun-ext (put-cell s isSet c);
-  stop = λ ended s. fun-ext (stop-cell s ended);
-}
+  pub session-follows : Follows onLedger onSession (sessionOf p) l
+  session-follows = record {
+    ranging = λ t. rw (part-of t) (part-ranging t (l t .inForce));
+    barred = λ t. rw (mark-of t) (yes-flag (l t .mark));
+    give = λ has. with-same part-of (λ t. mark-given t (has t));
+    put = λ isSet c. with-same (λ t. part-changed t (ranges t && isSet t) (some (settingsIn c t))) mark-of;
+    stop = λ ended. with-same (λ t. part-changed t (ended t) none) (λ t. mark-ended t (bars t && ended t));
+  }

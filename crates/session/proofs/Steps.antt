@@ -8,10 +8,11 @@ use lib.Dec.{eqb, ltb, leb}
 use lib.ListN.{length}
 use borrow.Author.Tests.{lt-ltb, le-leb, ne-eqb, eqb-true}
 use Rattle.codec.specs.Layout.{Layout, Values}
-use Rattle.codec.specs.Refusal.{Checked, refuse, accept, demand, andThen, notValid}
+use Rattle.codec.specs.Refusal.{Refusal, Checked, refuse, accept, demand, andThen, numberOf, notForTag, notValid}
 use Rattle.codec.specs.Blocks.{capabilities, configurations, cell}
-use Rattle.codec.specs.Records.{blank, response, only, setRecord, accepted, answer, forTag, fields}
+use Rattle.codec.specs.Records.{settingsIn, blank, response, only, setRecord, accepted, answer, forTag, fields}
 use Rattle.codec.specs.Message.{idOf, setOf, parse, recordOf, reading}
+use Rattle.codec.specs.NormalForm.{normal}
 use Rattle.codec.specs.Valid.{validFields, validColumn, valid}
 use Rattle.codec.specs.Writing.{writing, Writes}
 use Rattle.codec.specs.declared.records.Configuration.{Configuration}
@@ -25,19 +26,23 @@ use Rattle.codec.proofs.ValidCases.{response-valid, usedFields, only-valid, set
 use Rattle.session.specs.declared.state.Profile.{Profile}
 use Rattle.session.specs.declared.state.Session.{Session}
 use Rattle.session.specs.declared.state.Answer.{Answer}
-use Rattle.session.specs.declared.state.Step.{Step}
-use Rattle.codec.specs.Technology.{technologies, setLimit, Technology, technologyId, uwb, cs, nan, rssi, names, naming, bit, ofBits, inBoth}
-use Rattle.session.specs.Rules.{validProfile, Call, message, advertisement, Kind, request, configuration, stop, other, kindOf, octetsOf, replied, shows, capabilityReply, Served, conclude, giveOut, configure, setBy, endedBy, halt, serve, call, after, answerTo}
-use Rattle.session.specs.Session.{yes, rangingIn, sessionKeeps, sessionCall, Gives, asProfile, profileOf}
+use Rattle.codec.specs.Technology.{technologies, setLimit, Technology, technologyId, uwb, nan, rssi, names, naming, bit, ofBits, inBoth}
+use Rattle.session.specs.Within.{bars}
+use Rattle.session.specs.Rules.{validProfile, message, advertisement, Call, Kind, request, configuration, stop, kindOf, octetsOf, replied, shows, capabilityReply, Served, conclude, giveOut, configure, setBy, endedBy, halt, serve, respond, call, after, answerTo}
+use Rattle.session.specs.Session.{yes, partIn, markIn, withParts, withMarks, onSession, sessionCall, Gives, asProfile, profileOf}
 use Rattle.session.specs.Replies.{Delivers, settle, Answers}
 use Rattle.codec.proofs.SetLaws.{naming-below, names-naming}
 
--- a step with the same session
-pub with-session : {s x y : Session} {o : Checked (Served Session)} {a : Answer} {b e : List ℕ} → x ≡ y → Gives s o b (record { session = y; answer = a }) e → Gives s o b (record { session = x; answer = a }) e
-with-session q g = record { session = q ∙ g .session; answer = g .answer; buffer = g .buffer }
+-- the same session afterwards
+pub with-session : {s x y : Session} {o : Checked (Served Session)} {a : Answer} {b e : List ℕ} → x ≡ y → Gives s o b a y e → Gives s o b a x e
+with-session q g = record { answer = g .answer; session = q ∙ g .session; buffer = g .buffer }
 
-abbrev pub refusal : Session → ℕ → Step
-refusal s n = record { session = s; answer = record { refusal = n; length = 0; set = 0; stopped = 0 } }
+-- a refusal, which leaves session and buffer
+abbrev Refuses : Session → Checked (Served Session) → List ℕ → ℕ → Type 0
+Refuses s o b n = Gives s o b (record { refusal = n; length = 0; set = 0; stopped = 0 }) s b
+
+refuses : {s : Session} {b : List ℕ} (x : Refusal) → Refuses s (refuse x) b (numberOf x)
+refuses x = record { answer = refl; session = refl; buffer = refl }
 
 -- ---- a valid reply is delivered
 
@@ -53,10 +58,10 @@ pub silent : (b : List ℕ) → Delivers none b (record { refusal = 0; length = 
 silent b = record { answers = rw (le-leb 0 (length b) zero-le); leaves = rw (le-leb 0 (length b) zero-le) }
 
 -- fields that are valid where the profile names them are so where the reply does
-chosen : (L : Layout) (v : Values L) (has named : Bool) → (has ≡ true → named ≡ true) → validFields L named v ≡ true → (not has || validFields L true v) ≡ true
-chosen L v false named i e = refl
-chosen L v true true i e = e
-chosen L v true false i e = absurd (true≢false (sym (i refl)))
+valid-shown : (L : Layout) (v : Values L) (has named : Bool) → (has ≡ true → named ≡ true) → validFields L named v ≡ true → (not has || validFields L true v) ≡ true
+valid-shown L v false named i e = refl
+valid-shown L v true true i e = e
+valid-shown L v true false i e = absurd (true≢false (sym (i refl)))
 
 module _ (p : Profile) (wanted : Technology → Bool) (v : validProfile p ≡ true) where
   has : (t : Technology) → shows p wanted t ≡ true → names (p .set) t ≡ true
@@ -74,7 +79,7 @@ module _ (p : Profile) (wanted : Technology → Bool) (v : validProfile p ≡ tr
         only-valid (naming f) k,
         lt-ltb (naming f) setLimit (naming-below f),
         every-all (usedFields (naming f) k) technologies λ t. rw (names-naming f t)
-            (chosen (cell capabilities t) (fields capabilities k t) (f t) (names (p .set) t) (has t) (every-at (λ t. validFields (cell capabilities t) (names (p .set) t) (fields capabilities k t)) t c (a-technology t))),
+            (valid-shown (cell capabilities t) (fields capabilities k t) (f t) (names (p .set) t) (has t) (every-at (λ t. validFields (cell capabilities t) (names (p .set) t) (fields capabilities k t)) t c (a-technology t))),
       )
 
 -- the blocks that the code chooses, by the bits of two sets
@@ -98,24 +103,23 @@ module _ (s : Session) (wanted : ℕ) {blocks m : ℕ} {b e : List ℕ} {w : Wri
     (k : blocks ≡ naming (inBoth wanted (s .profile .set)))
     (q : m ≡ cond (bit blocks 0 && eqb (w .refusal) 0) 0 (s .mark))
     (v : validProfile (s .profile) ≡ true) (h : Writes (response blocks (only blocks (s .profile .capability))) b w e) where
-  pub given : Gives s (conclude b (giveOut sessionKeeps (s .profile) (names wanted) s)) b (record { session = record { profile = s .profile; uwb = s .uwb; nan = s .nan; rssi = s .rssi; mark = m }; answer = settle w 0 0 }) e
-  unfolding conclude replied shows
+  pub given : Gives s (conclude b (giveOut onSession (s .profile) (names wanted) s)) b (settle w 0 0) (withMarks s (λ t. m)) e
+  unfolding conclude shows
   given = let f = shows (s .profile) (names wanted) in
       let d = capabilities-delivered (s .profile) wanted v k h in
+      let a = settled (giveOut onSession (s .profile) (names wanted) s) d in
       let x = ap (λ (n : ℕ). bit n 0) k ∙ names-naming f uwb in
-      by-bool (leb (length (octetsOf (some (capabilityReply (s .profile) (names wanted))))) (length b))
-      (λ t. record { session = rw (q, x, d .answers, t, with-true (f uwb)); answer = rw (d .answers, t); buffer = rw (d .leaves, t) })
-      (λ t. record { session = rw (q, d .answers, t, and-false (bit blocks 0)); answer = rw (d .answers, t); buffer = rw (d .leaves, t) })
+      record {
+        answer = a .answer;
+        session = by-bool (leb (length (normal (capabilityReply (s .profile) (names wanted)))) (length b))
+            (λ t. rw (q, x, d .answers, t, with-true (f uwb)))
+            (λ t. rw (q, d .answers, t, and-false (bit blocks 0)));
+        buffer = a .buffer;
+      }
 
 -- what stops, with a message's settings
 abbrev pub ends : (Technology → Bool) → Configuration → Session → Session
-ends ended c s = record {
-  profile = s .profile;
-  uwb = cond (ended uwb) (record { ranging = 0; settings = c .uwb }) (s .uwb);
-  nan = cond (ended nan) (record { ranging = 0; settings = c .nan }) (s .nan);
-  rssi = cond (ended rssi) (record { ranging = 0; settings = c .rssi }) (s .rssi);
-  mark = cond (ended uwb) 1 (s .mark);
-}
+ends ended c s = withMarks (withParts s (λ t. cond (ended t) (record { ranging = 0; settings = settingsIn c t }) (partIn s t))) (λ t. cond (bars t && ended t) 1 (markIn s t))
 
 -- one technology, or none
 abbrev pub alone : Technology → Bool → Technology → Bool
@@ -123,38 +127,37 @@ alone t on u = cond (eqb (technologyId t) (technologyId u)) on false
 
 -- what the answer names is set and stopped
 abbrev pub follow : Configuration → Answer → Session → Session
-follow c a s = ends (names (a .stopped)) c (sessionKeeps .put (names (a .set)) c s)
+follow c a s = ends (names (a .stopped)) c (onSession .put (names (a .set)) c s)
 
 pub follow-none : (c : Configuration) (w : Written) (s : Session) → follow c (settle w 0 0) s ≡ s
 follow-none c w s = by-bool (eqb (w .refusal) 0) (λ t. rw t) (λ t. rw t)
 
 module _ (s : Session) (set : ℕ) (b : List ℕ) where
-  pub follow-configure : (c : Configuration) → let o = conclude b (configure sessionKeeps (s .profile) set c s) in follow c (answerTo o) s ≡ after s o
+  pub follow-configure : (c : Configuration) → let o = conclude b (configure onSession (s .profile) set c s) in follow c (answerTo o) s ≡ after s o
   unfolding conclude
-  follow-configure c = let f = setBy sessionKeeps (s .profile) set c s in
-      by-bool (leb (length (octetsOf (configure sessionKeeps (s .profile) set c s .reply))) (length b)) (λ t. rw (t, names-naming f uwb, names-naming f nan, names-naming f rssi)) (λ t. rw t)
+  follow-configure c = let f = setBy onSession (s .profile) set c s in
+      by-bool (leb (length (octetsOf (configure onSession (s .profile) set c s .reply))) (length b))
+      (λ t. rw t (ap (λ (g : Technology → Bool). onSession .put g c s) (fun-ext (names-naming f))))
+      (λ t. rw t)
 
-  pub follow-halt : {c : Configuration} → c ≡ blank configurations → let o = conclude b (halt sessionKeeps (s .profile) set s) in follow c (answerTo o) s ≡ after s o
+  pub follow-halt : {c : Configuration} → c ≡ blank configurations → let o = conclude b (halt onSession (s .profile) set s) in follow c (answerTo o) s ≡ after s o
   unfolding conclude
-  follow-halt {c} z = let f = endedBy sessionKeeps (s .profile) set s in
-      by-bool (leb (length (octetsOf (halt sessionKeeps (s .profile) set s .reply))) (length b)) (λ t. rw (t, z, names-naming f uwb, names-naming f nan, names-naming f rssi)) (λ t. rw t)
+  follow-halt {c} z = let f = endedBy onSession (s .profile) set s in
+      by-bool (leb (length (octetsOf (halt onSession (s .profile) set s .reply))) (length b))
+      (λ t. rw (t, z) (ap (λ (g : Technology → Bool). onSession .stop g s) (fun-ext (names-naming f))))
+      (λ t. rw t)
 
 -- ---- what a Stop ends, where CS is never ranging
 
-pub ended-set : (p : Profile) (set : ℕ) (s : Session) → ofBits ((bit set 0 && yes (s .uwb .ranging)) ∷ false ∷ (bit set 2 && yes (s .nan .ranging)) ∷ (bit set 3 && yes (s .rssi .ranging)) ∷ []) ≡ naming (endedBy sessionKeeps p set s)
-unfolding endedBy rangingIn
+pub ended-set : (p : Profile) (set : ℕ) (s : Session) → ofBits ((bit set 0 && yes (s .uwb .ranging)) ∷ false ∷ (bit set 2 && yes (s .nan .ranging)) ∷ (bit set 3 && yes (s .rssi .ranging)) ∷ []) ≡ naming (endedBy onSession p set s)
+unfolding endedBy
 ended-set p set s = rw (and-false (bit set 1))
-
--- ---- by the kind of message
-
-by-kind : (s : Session) (r : Record) {b e : List ℕ} {v : Step} (k : Kind) → kindOf (r .id) ≡ k → Gives s (serve sessionKeeps (s .profile) k r s b) b v e → Gives s (serve sessionKeeps (s .profile) (kindOf (r .id)) r s b) b v e
-by-kind s r {b} {e} {v} k h g = subst (λ (k : Kind). Gives s (serve sessionKeeps (s .profile) k r s b) b v e) (sym h) g
 
 -- ---- by the profile and the reading
 
-pub not-valid : (s : Session) (c : Call) (b : List ℕ) → validProfile (s .profile) ≡ false → Gives s (sessionCall s c) b (refusal s 12) b
+pub invalid : (s : Session) (c : Call) → validProfile (s .profile) ≡ false → Refuses s (sessionCall s c) (c .lent) 12
 unfolding sessionCall
-not-valid s c b h = rw h (record { session = refl; answer = refl; buffer = refl })
+invalid s c h = rw h (refuses notValid)
 
 -- no settings but in a Configuration
 unset : (m : List ℕ) (v : Bool) → let a = forTag (answer (demand v notValid (reading m))) in (a .id ≡ 2 → ⊥) → a .configuration ≡ blank configurations
@@ -166,75 +169,77 @@ unset m true k = go (parse m) k
     go (refuse x) k = refl
     go (accept blocks) k = rw (ne-eqb (idOf m) 2 k)
 
-same-id : {a : TagReading} (r : Record) (n : ℕ) → a ≡ forTag (accepted r) → a .id ≡ n → r .id ≡ n
-same-id r n q k = sym (ap (λ (y : TagReading). y .id) q) ∙ k
+-- all that the kinds look at
+abbrev tagged : TagReading → Record
+tagged a = record { id = a .id; set = a .set; capability = blank capabilities; configuration = a .configuration }
 
 module _ (s : Session) (m b : List ℕ) {a : TagReading} (h : a ≡ forTag (answer (demand (validProfile (s .profile)) notValid (reading m)))) where
-  -- the reader's refusals come after the profile's
-  heard : sessionCall s (message m b) ≡ andThen (demand (validProfile (s .profile)) notValid (reading m)) λ r. serve sessionKeeps (s .profile) (kindOf (r .id)) r s b
-  unfolding sessionCall call
-  heard = by-bool (validProfile (s .profile)) (λ t. rw t) (λ t. rw t)
+  abbrev given-message : Checked (Served Session)
+  given-message = sessionCall s (record { said = message m; lent = b })
 
-  pub not-heard : (a .refusal ≡ 0 → ⊥) → Gives s (sessionCall s (message m b)) b (refusal s (a .refusal)) b
-  not-heard z = go _ refl
+  abbrev by-kind : Checked (Served Session)
+  by-kind = andThen (kindOf (a .id)) λ k. conclude b (serve onSession (s .profile) k (tagged a) s)
+
+  abbrev by-reading : Bool → Checked Record → Checked (Served Session)
+  by-reading v o = demand v notValid (andThen (andThen o λ r. andThen (kindOf (r .id)) λ k. accept (serve onSession (s .profile) k r s)) (conclude b))
+
+  pub not-heard : (a .refusal ≡ 0 → ⊥) → Refuses s given-message b (a .refusal)
+  unfolding sessionCall call respond
+  not-heard z = go (validProfile (s .profile)) (reading m) h
     where
-      go : (o : Checked Record) → demand (validProfile (s .profile)) notValid (reading m) ≡ o → Gives s (sessionCall s (message m b)) b (refusal s (a .refusal)) b
-      go (refuse x) q = rw (heard, h, q) (record { session = refl; answer = refl; buffer = refl })
-      go (accept r) q = absurd (z (ap (λ (y : TagReading). y .refusal) (h ∙ ap (λ (o : Checked Record). forTag (answer o)) q)))
+      go : (v : Bool) (o : Checked Record) → a ≡ forTag (answer (demand v notValid o)) → Refuses s (by-reading v o) b (a .refusal)
+      go false o q = rw q (refuses notValid)
+      go true (refuse x) q = rw q (refuses x)
+      go true (accept r) q = absurd (z (ap (λ (y : TagReading). y .refusal) q))
 
-  pub heard-valid : a .refusal ≡ 0 → validProfile (s .profile) ≡ true
-  heard-valid z = by-bool (validProfile (s .profile)) (λ t. t) (λ f. absurd (no-zero notValid (sym (ap (λ (y : TagReading). y .refusal) (h ∙ ap (λ (x : Bool). forTag (answer (demand x notValid (reading m)))) f)) ∙ z)))
+  pub was-heard : a .refusal ≡ 0 → (validProfile (s .profile) ≡ true) × (given-message ≡ by-kind)
+  unfolding sessionCall call respond
+  was-heard z = go (validProfile (s .profile)) (reading m) h
+    where
+      refused : (x : Refusal) → a .refusal ≡ numberOf x → ⊥
+      refused x q = no-zero x (sym q ∙ z)
+
+      same : (r : Record) (k : Kind) → serve onSession (s .profile) k r s ≡ serve onSession (s .profile) k (tagged (forTag (accepted r))) s
+      same r request = refl
+      same r configuration = refl
+      same r stop = refl
+
+      of : (r : Record) (o : Checked Kind) → andThen (andThen o λ k. accept (serve onSession (s .profile) k r s)) (conclude b) ≡ (andThen o λ k. conclude b (serve onSession (s .profile) k (tagged (forTag (accepted r))) s))
+      of r (refuse x) = refl
+      of r (accept k) = ap (conclude b) (same r k)
+
+      go : (v : Bool) (o : Checked Record) → a ≡ forTag (answer (demand v notValid o)) → (v ≡ true) × (by-reading v o ≡ by-kind)
+      go false o q = absurd (refused notValid (ap (λ (y : TagReading). y .refusal) q))
+      go true (refuse x) q = absurd (refused x (ap (λ (y : TagReading). y .refusal) q))
+      go true (accept r) q = (refl, rw q (of r (kindOf (r .id))))
 
   pub heard-unset : (a .id ≡ 2 → ⊥) → a .configuration ≡ blank configurations
   heard-unset = subst (λ (y : TagReading). (y .id ≡ 2 → ⊥) → y .configuration ≡ blank configurations) (sym h) (unset m (validProfile (s .profile)))
 
-  module _ (z : a .refusal ≡ 0) {w : Step} {e : List ℕ} where
-    was-heard : ((r : Record) → a ≡ forTag (accepted r) → Gives s (serve sessionKeeps (s .profile) (kindOf (r .id)) r s b) b w e) → Gives s (sessionCall s (message m b)) b w e
-    was-heard g = go _ refl
-      where
-        go : (o : Checked Record) → demand (validProfile (s .profile)) notValid (reading m) ≡ o → Gives s (sessionCall s (message m b)) b w e
-        go (refuse x) q = absurd (no-zero x (sym (ap (λ (y : TagReading). y .refusal) (h ∙ ap (λ (o : Checked Record). forTag (answer o)) q)) ∙ z))
-        go (accept r) q = rw (heard, q) (g r (h ∙ ap (λ (o : Checked Record). forTag (answer o)) q))
+  module _ (z : a .refusal ≡ 0) where
+    pub a-message : {k : Kind} {x : Answer} {n : Session} {e : List ℕ} → kindOf (a .id) ≡ accept k → Gives s (conclude b (serve onSession (s .profile) k (tagged a) s)) b x n e → Gives s given-message b x n e
+    a-message i g = rw (was-heard z .1, i) g
 
-    pub a-request : a .id ≡ 0 → Gives s (conclude b (giveOut sessionKeeps (s .profile) (names (a .set)) s)) b w e → Gives s (sessionCall s (message m b)) b w e
-    unfolding serve
-    a-request k g = was-heard λ r q. by-kind s r request (ap kindOf (same-id r 0 q k)) (subst (λ (y : TagReading). Gives s (conclude b (giveOut sessionKeeps (s .profile) (names (y .set)) s)) b w e) q g)
-
-    pub a-configuration : a .id ≡ 2 → Gives s (conclude b (configure sessionKeeps (s .profile) (a .set) (a .configuration) s)) b w e → Gives s (sessionCall s (message m b)) b w e
-    unfolding serve
-    a-configuration k g = was-heard λ r q. by-kind s r configuration (ap kindOf (same-id r 2 q k)) (subst (λ (y : TagReading). Gives s (conclude b (configure sessionKeeps (s .profile) (y .set) (y .configuration) s)) b w e) q g)
-
-    pub a-stop : a .id ≡ 6 → Gives s (conclude b (halt sessionKeeps (s .profile) (a .set) s)) b w e → Gives s (sessionCall s (message m b)) b w e
-    unfolding serve
-    a-stop k g = was-heard λ r q. by-kind s r stop (ap kindOf (same-id r 6 q k)) (subst (λ (y : TagReading). Gives s (conclude b (halt sessionKeeps (s .profile) (y .set) s)) b w e) q g)
-
-  pub another : a .refusal ≡ 0 → (a .id ≡ 0 → ⊥) → (a .id ≡ 2 → ⊥) → (a .id ≡ 6 → ⊥) → Gives s (sessionCall s (message m b)) b (refusal s 10) b
-  unfolding serve
-  another z h k l = was-heard z λ r q. let i = ap (λ (y : TagReading). y .id) q in
-      by-kind s r other (rw (ne-eqb (r .id) 0 (λ x. h (i ∙ x)), ne-eqb (r .id) 2 (λ x. k (i ∙ x)), ne-eqb (r .id) 6 (λ x. l (i ∙ x)))) (record { session = refl; answer = refl; buffer = refl })
+    pub another : (a .id ≡ 0 → ⊥) → (a .id ≡ 2 → ⊥) → (a .id ≡ 6 → ⊥) → Refuses s given-message b 10
+    another h k l = rw (was-heard z .1, ne-eqb (a .id) 0 h, ne-eqb (a .id) 2 k, ne-eqb (a .id) 6 l) (refuses notForTag)
 
 -- an advertisement wants every technology
-pub advertised : (s : Session) (b : List ℕ) → validProfile (s .profile) ≡ true → {w : Step} {e : List ℕ} → Gives s (conclude b (giveOut sessionKeeps (s .profile) (names 15) s)) b w e → Gives s (sessionCall s (advertisement b)) b w e
-unfolding sessionCall call
-advertised s b v {w} {e} g = rw v (subst (λ (f : Technology → Bool). Gives s (conclude b (giveOut sessionKeeps (s .profile) f s)) b w e) (fun-ext all) g)
-  where
-    all : (t : Technology) → names 15 t ≡ true
-    all uwb = refl
-    all cs = refl
-    all nan = refl
-    all rssi = refl
+pub advertised : (s : Session) (b : List ℕ) → validProfile (s .profile) ≡ true → {x : Answer} {n : Session} {e : List ℕ} → Gives s (conclude b (giveOut onSession (s .profile) (names 15) s)) b x n e
+    → Gives s (sessionCall s (record { said = advertisement; lent = b })) b x n e
+unfolding sessionCall call respond
+advertised s b v {x} {n} {e} g = rw v (subst (λ (f : Technology → Bool). Gives s (conclude b (giveOut onSession (s .profile) f s)) b x n e) (fun-ext (names-naming (λ t. true))) g)
 
 -- ---- the start
 
 module _ (r : Record) (n : ℕ) where
-  abbrev pub fits : Bool
-  fits = (eqb (r .id) 1 && valid r) && ltb n 3
+  abbrev pub isProfile : Bool
+  isProfile = (eqb (r .id) 1 && valid r) && ltb n 3
 
-  pub start-refused : fits ≡ false → profileOf r n ≡ refuse notValid
+  pub start-refused : isProfile ≡ false → profileOf r n ≡ refuse notValid
   unfolding profileOf
   start-refused h = rw h
 
-  pub start-accepted : fits ≡ true → profileOf r n ≡ accept (asProfile r n)
+  pub start-accepted : isProfile ≡ true → profileOf r n ≡ accept (asProfile r n)
   unfolding profileOf
   start-accepted h = rw h
 

@@ -5,18 +5,17 @@ use mathlib.Core.Path.{_≡_}
 use mathlib.Core.List.{List, _∷_, _++_, map}
 use mathlib.Core.Option.{some}
 use mathlib.Core.Logic.{_↔_}
-use mathlib.Core.Bool.{cond}
 use lib.ListN.{take}
 use Rattle.codec.specs.declared.records.Record.{Record}
 use Rattle.session.specs.declared.state.Profile.{Profile}
 use Rattle.session.specs.declared.state.Session.{Session}
 use Rattle.session.specs.declared.state.Started.{Started}
-use Rattle.codec.specs.Technology.{Technology, uwb, nan, rssi}
+use Rattle.codec.specs.Technology.{Technology}
 use Rattle.codec.specs.Records.{Settings}
 use Rattle.session.specs.Rules.{Call}
 use Rattle.session.specs.Ledger.{Ledger, nothing, ledgerCall, seenFrom, stateAfter}
 use Rattle.session.specs.History.{Account, Words, Reports}
-use Rattle.session.specs.Session.{inForceIn, uwbPart, nanPart, rssiPart, asProfile, profileOf, started}
+use Rattle.session.specs.Session.{flag, partOf, sessionWith, inForceIn, asProfile, profileOf, started}
 use Rattle.session.specs.Trace.{Event, seenOf, Ran, callsOf}
 
 -- what the ledger holds after these calls
@@ -25,13 +24,7 @@ held p calls = stateAfter (ledgerCall p) nothing calls
 
 -- the session record that says what a ledger holds
 abbrev pub sessionOf : Profile → Ledger → Session
-sessionOf p l = record {
-  profile = p;
-  uwb = uwbPart (l uwb .inForce);
-  nan = nanPart (l nan .inForce);
-  rssi = rssiPart (l rssi .inForce);
-  mark = cond (l uwb .mark) 1 0;
-}
+sessionOf p l = sessionWith p (λ t. partOf (l t .inForce)) (λ t. flag (l t .mark))
 
 -- what holds of a list of calls from a fresh session with an accepted profile; `e` is the session after it
 pub record Upheld (p : Profile) (events : List Event) (e : Session) : Type 1 where

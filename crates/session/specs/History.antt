@@ -2,11 +2,10 @@
 use Prim.Native.Nat.{ℕ, _≤_, _<_}
 use mathlib.Core.Path.{_≡_}
 use mathlib.Core.List.{List, [], _∷_, _++_}
-use mathlib.Core.Option.{Option, none, some}
 use mathlib.Core.Logic.{_↔_, _⊎_}
 use mathlib.Core.Bool.{Bool, true, false, cond, _&&_}
 use lib.ListN.{length}
-use Rattle.codec.specs.Refusal.{Checked, refuse, accept}
+use Rattle.codec.specs.Refusal.{accept}
 use Rattle.codec.specs.Message.{reading}
 use Rattle.codec.specs.WellFormed.{Each, Has}
 use Rattle.codec.specs.NormalForm.{blocksOf, normal}
@@ -16,23 +15,12 @@ use Rattle.session.specs.declared.state.Profile.{Profile}
 use Rattle.session.specs.declared.state.Answer.{Answer}
 use Rattle.codec.specs.Technology.{Technology, technologyId, names}
 use Rattle.codec.specs.Records.{Settings, settingsIn, capabilityIn, setRecord}
-use Rattle.session.specs.Within.{ranges, bars, within}
-use Rattle.session.specs.Rules.{Call, message, advertisement, lent, Kind, request, configuration, stop, other, kindOf, explicit, capabilityReply}
+use Rattle.session.specs.Within.{ranges, bars, withinProfile}
+use Rattle.session.specs.Rules.{Call, message, advertisement, Kind, request, configuration, stop, kindOf, explicit, capabilityReply}
 
 -- an account of what ranges, with which settings, after each list of calls
 abbrev pub Account : Type 1
 Account = List Call → (t : Technology) → Settings t → Type 0
-
--- ---- accepted calls
-
-abbrev pub accepted : Checked Record → Option Record
-accepted (refuse x) = none
-accepted (accept r) = some r
-
--- the record of a call's message, if the reader accepts it
-abbrev pub heard : Call → Option Record
-heard (message m b) = accepted (reading m)
-heard (advertisement b) = none
 
 -- none of the later calls does it, each taken after those before it
 abbrev pub Never : {A : Type 0} → (List Call → Call → A → Type 0) → List Call → List Call → Type 0
@@ -40,21 +28,26 @@ Never P before [] = Unit {0}
 Never {A} P before (c ∷ later) = ((x : A) → P before c x → ⊥) × Never P (before ++ c ∷ []) later
 
 module _ (p : Profile) where
-  -- the reply fits the buffer: messages 3 and 7 have four octets, and with explicit replies off none
-  abbrev pub Fits : Kind → Record → ℕ → Type 0
-  Fits request r n = length (normal (capabilityReply p (names (r .set)))) ≤ n
-  Fits configuration r n = cond (explicit (p .replies)) 4 0 ≤ n
-  Fits stop r n = cond (explicit (p .replies)) 4 0 ≤ n
-  Fits other r n = ⊥
+  -- ---- accepted calls
 
+  -- the octets of the reply to a message: messages 3 and 7 have four, and with explicit replies off there are none
+  abbrev pub replyLength : Kind → Record → ℕ
+  replyLength request r = length (normal (capabilityReply p (names (r .set))))
+  replyLength configuration r = cond (explicit (p .replies)) 4 0
+  replyLength stop r = cond (explicit (p .replies)) 4 0
+
+  -- a message that the reader accepts, of one of the tag's kinds, with room for the reply
   pub record Accepted (k : Kind) (c : Call) (r : Record) : Type 0 where
-    pub says : heard c ≡ some r
-    pub kind : kindOf (r .id) ≡ k
-    pub room : Fits k r (length (lent c))
+    pub octets : List ℕ
+    pub says : c .said ≡ message octets
+    pub reads : reading octets ≡ accept r
+    pub kind : kindOf (r .id) ≡ accept k
+    pub room : replyLength k r ≤ length (c .lent)
 
+  -- an advertisement, with room for what it writes
   pub record Advertised (c : Call) : Type 0 where
-    pub is : c ≡ advertisement (lent c)
-    pub room : length (normal (capabilityReply p (λ t. true))) ≤ length (lent c)
+    pub is : c .said ≡ advertisement
+    pub room : length (normal (capabilityReply p (λ t. true))) ≤ length (c .lent)
 
   -- an accepted Stop naming it
   pub record Stops (t : Technology) (c : Call) : Type 0 where
@@ -111,7 +104,7 @@ module _ (p : Profile) where
       pub accepted : Accepted configuration c content
       pub named : names (content .set) t ≡ true
       pub has : names (p .set) t ≡ true
-      pub fit : within t (capabilityIn (p .capability) t) (settingsIn (content .configuration) t) ≡ true
+      pub fit : withinProfile t (capabilityIn (p .capability) t) (settingsIn (content .configuration) t) ≡ true
       pub free : bars t ≡ true → Barred t calls → ⊥
       pub settings : settingsIn (content .configuration) t ≡ x
 

@@ -9,7 +9,7 @@ use Rattle.session.specs.declared.state.Answer.{Answer}
 use Rattle.codec.specs.Technology.{Technology}
 use Rattle.codec.specs.Records.{Settings, settingsIn}
 use Rattle.session.specs.Within.{ranges, bars}
-use Rattle.session.specs.Rules.{Call, lent, Served, after, Keeps, call, answerTo, bufferAfter}
+use Rattle.session.specs.Rules.{Call, Served, after, Operations, call, answerTo, bufferAfter}
 
 -- what the ledger holds of a technology: the settings in force, or none, and the mark, which only UWB ever gets
 pub record Cell (t : Technology) : Type 0 where
@@ -30,8 +30,8 @@ isSome (some a) = true
 
 -- If the reply holds UWB's block, the mark goes. Each technology set, except CS, gets its block's settings; the others keep theirs.
 -- Each technology that stops loses its settings; if UWB is one, the mark comes.
-abbrev pub ledgerKeeps : Keeps Ledger
-ledgerKeeps = record {
+abbrev pub onLedger : Operations Ledger
+onLedger = record {
   ranging = λ l t. isSome (l t .inForce);
   barred = λ l t. l t .mark;
   give = λ has l t. record { inForce = l t .inForce; mark = l t .mark && not (has t) };
@@ -40,7 +40,7 @@ ledgerKeeps = record {
 }
 
 abbrev pub ledgerCall : Profile → Ledger → Call → Checked (Served Ledger)
-ledgerCall p = call ledgerKeeps p
+ledgerCall p = call onLedger p
 
 -- ---- a list of calls, each from the state that the one before left
 
@@ -51,7 +51,7 @@ pub record Seen : Type 0 where
 module _ {S : Type 0} (step : S → Call → Checked (Served S)) where
   abbrev pub seenFrom : S → List Call → List Seen
   seenFrom s [] = []
-  seenFrom s (c ∷ calls) = record { answer = answerTo (step s c); buffer = bufferAfter (step s c) (lent c) } ∷ seenFrom (after s (step s c)) calls
+  seenFrom s (c ∷ calls) = record { answer = answerTo (step s c); buffer = bufferAfter (step s c) (c .lent) } ∷ seenFrom (after s (step s c)) calls
 
   abbrev pub stateAfter : S → List Call → S
   stateAfter s [] = s

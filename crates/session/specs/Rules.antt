@@ -16,7 +16,7 @@ use Rattle.session.specs.declared.state.Profile.{Profile}
 use Rattle.session.specs.declared.state.Answer.{Answer}
 use Rattle.codec.specs.Technology.{Technology, names, naming}
 use Rattle.codec.specs.Records.{capabilityIn, settingsIn, response, only, setRecord}
-use Rattle.session.specs.Within.{within}
+use Rattle.session.specs.Within.{withinProfile}
 
 -- ---- the profile
 
@@ -30,21 +30,23 @@ explicit replies = not (eqb replies 2)
 
 -- ---- calls
 
--- a message's octets or an advertisement, each with the contents of the lent buffer
-pub data Call : Type 0 where
-  message : List ℕ → List ℕ → Call
-  advertisement : List ℕ → Call
+-- what is said to the tag: a message's octets, or that it should advertise
+pub data Said : Type 0 where
+  message : List ℕ → Said
+  advertisement : Said
 
-abbrev pub lent : Call → List ℕ
-lent (message m b) = b
-lent (advertisement b) = b
+-- a call: what is said, and the contents of the lent buffer
+pub record Call : Type 0 where
+  pub said : Said
+  pub lent : List ℕ
 
 -- what a message is to the tag
 pub data Kind : Type 0 where
-  request configuration stop other : Kind
+  request configuration stop : Kind
 
-abbrev pub kindOf : ℕ → Kind
-kindOf id = cond (eqb id 0) request (cond (eqb id 2) configuration (cond (eqb id 6) stop other))
+-- by its ID; 10 for messages 1, 3 and 7
+abbrev pub kindOf : ℕ → Checked Kind
+kindOf id = cond (eqb id 0) (accept request) (cond (eqb id 2) (accept configuration) (cond (eqb id 6) (accept stop) (refuse notForTag)))
 
 -- ---- replies
 
@@ -69,9 +71,15 @@ capabilityReply p wanted = response (naming (shows p wanted)) (only (naming (sho
 abbrev pub explicitReply : ℕ → SetMessage → ℕ → Option Record
 explicitReply replies m set = cond (explicit replies) (some (setRecord m set)) none
 
--- ---- what a Configuration sets: a technology that it names and the profile has, with settings within the profile, and not barred
-unfoldable pub sets : Profile → ℕ → Configuration → Technology → Bool → Bool
-sets p set c t barred = names set t && (names (p .set) t && (within t (capabilityIn (p .capability) t) (settingsIn c t) && not barred))
+-- ---- what a Configuration sets
+
+-- each technology by itself: the Configuration names it, the profile has it, its settings lie within the profile, and it is not barred
+unfoldable pub eligible : Profile → ℕ → Configuration → (Technology → Bool) → Technology → Bool
+eligible p set c barred t = names set t && (names (p .set) t && (withinProfile t (capabilityIn (p .capability) t) (settingsIn c t) && not (barred t)))
+
+-- of those that are eligible, every one
+abbrev pub chosen : (Technology → Bool) → Technology → Bool
+chosen may t = may t
 
 -- ---- what an accepted call gives: the state after it, the reply, what was set and what was stopped
 
@@ -93,31 +101,31 @@ after s (accept v) = v .state
 -- ---- the calls, over whatever keeps the state
 
 -- what is asked of a state, and what happens to it: the technologies whose capabilities are given out, which are set, which stop
-pub record Keeps (S : Type 0) : Type 0 where
+pub record Operations (S : Type 0) : Type 0 where
   pub ranging : S → Technology → Bool
   pub barred : S → Technology → Bool
   pub give : (Technology → Bool) → S → S
   pub put : (Technology → Bool) → Configuration → S → S
   pub stop : (Technology → Bool) → S → S
 
-module _ {S : Type 0} (K : Keeps S) (p : Profile) where
+module _ {S : Type 0} (on : Operations S) (p : Profile) where
   -- Capability Responses take the mark away where they show UWB; nothing is set or stopped
   abbrev pub giveOut : (Technology → Bool) → S → Served S
   giveOut wanted s = record {
-    state = K .give (shows p wanted) s;
+    state = on .give (shows p wanted) s;
     reply = some (capabilityReply p wanted);
     set = 0;
     stopped = 0;
   }
 
-  -- what a Configuration sets
+  -- what a Configuration sets in this state
   unfoldable pub setBy : ℕ → Configuration → S → Technology → Bool
-  setBy set c s t = sets p set c t (K .barred s t)
+  setBy set c s = chosen (eligible p set c (on .barred s))
 
   -- a technology already ranging takes the new settings if set, else goes on with the old
   abbrev pub configure : ℕ → Configuration → S → Served S
   configure set c s = record {
-    state = K .put (setBy set c s) c s;
+    state = on .put (setBy set c s) c s;
     reply = explicitReply (p .replies) SetMessage.ConfigurationResponse (naming (setBy set c s));
     set = naming (setBy set c s);
     stopped = 0;
@@ -125,26 +133,30 @@ module _ {S : Type 0} (K : Keeps S) (p : Profile) where
 
   -- the technologies named that are ranging stop
   unfoldable pub endedBy : ℕ → S → Technology → Bool
-  endedBy set s t = names set t && K .ranging s t
+  endedBy set s t = names set t && on .ranging s t
 
   abbrev pub halt : ℕ → S → Served S
   halt set s = record {
-    state = K .stop (endedBy set s) s;
+    state = on .stop (endedBy set s) s;
     reply = explicitReply (p .replies) SetMessage.StopResponse (naming (endedBy set s));
     set = 0;
     stopped = naming (endedBy set s);
   }
 
-  unfoldable pub serve : Kind → Record → S → List ℕ → Checked (Served S)
-  serve request r s b = conclude b (giveOut (names (r .set)) s)
-  serve configuration r s b = conclude b (configure (r .set) (r .configuration) s)
-  serve stop r s b = conclude b (halt (r .set) s)
-  serve other r s b = refuse notForTag
+  -- what a message gives, by its kind
+  abbrev pub serve : Kind → Record → S → Served S
+  serve request r s = giveOut (names (r .set)) s
+  serve configuration r s = configure (r .set) (r .configuration) s
+  serve stop r s = halt (r .set) s
 
-  -- the reader's refusals come first; an advertisement is a Request for the whole profile
+  -- the reader's refusals come first, then 10; an advertisement is a Request for the whole profile
+  unfoldable pub respond : S → Said → Checked (Served S)
+  respond s (message m) = andThen (reading m) λ r. andThen (kindOf (r .id)) λ k. accept (serve k r s)
+  respond s advertisement = accept (giveOut (λ t. true) s)
+
+  -- 11 comes last
   unfoldable pub call : S → Call → Checked (Served S)
-  call s (message m b) = andThen (reading m) λ r. serve (kindOf (r .id)) r s b
-  call s (advertisement b) = conclude b (giveOut (λ t. true) s)
+  call s c = andThen (respond s (c .said)) (conclude (c .lent))
 
 -- ---- what a caller sees
 

@@ -3,104 +3,109 @@ use Prim.Native.Nat.{ℕ}
 use mathlib.Core.Path.{_≡_}
 use mathlib.Core.List.{List}
 use mathlib.Core.Option.{Option, none, some}
-use mathlib.Core.Bool.{Bool, false, cond, not, _&&_}
+use mathlib.Core.Bool.{Bool, cond, not, _&&_}
 use lib.Dec.{eqb, ltb}
 use Rattle.codec.specs.Refusal.{Checked, refuse, accept, demand, numberOf, notValid}
 use Rattle.codec.specs.Valid.{valid}
-use Rattle.codec.specs.declared.uwb.UwbConfiguration.{UwbConfiguration}
-use Rattle.codec.specs.declared.nan.NanConfiguration.{NanConfiguration}
-use Rattle.codec.specs.declared.rssi.Rssi.{Rssi}
 use Rattle.codec.specs.declared.records.Record.{Record}
 use Rattle.session.specs.declared.state.Profile.{Profile}
-use Rattle.session.specs.declared.state.UwbState.{UwbState}
-use Rattle.session.specs.declared.state.NanState.{NanState}
-use Rattle.session.specs.declared.state.RssiState.{RssiState}
 use Rattle.session.specs.declared.state.Session.{Session}
 use Rattle.session.specs.declared.state.Answer.{Answer}
-use Rattle.session.specs.declared.state.Step.{Step}
 use Rattle.session.specs.declared.state.Started.{Started}
 use Rattle.codec.specs.Technology.{Technology, uwb, cs, nan, rssi}
 use Rattle.codec.specs.Blocks.{capabilities, configurations}
-use Rattle.codec.specs.Records.{Settings, blank}
-use Rattle.session.specs.Rules.{Call, lent, validProfile, Served, Keeps, call, after, answerTo, bufferAfter}
+use Rattle.codec.specs.Records.{Settings, settingsIn, blank}
+use Rattle.session.specs.Within.{ranges, bars}
+use Rattle.session.specs.Rules.{Call, validProfile, Served, Operations, call, after, answerTo, bufferAfter}
 
 -- a flag is a number: 0 no, anything else yes
 abbrev pub yes : ℕ → Bool
 yes n = not (eqb n 0)
 
--- the settings in force, or none
-unfoldable pub inForceIn : Session → (t : Technology) → Option (Settings t)
-inForceIn s uwb = cond (yes (s .uwb .ranging)) (some (s .uwb .settings)) none
-inForceIn s cs = none
-inForceIn s nan = cond (yes (s .nan .ranging)) (some (s .nan .settings)) none
-inForceIn s rssi = cond (yes (s .rssi .ranging)) (some (s .rssi .settings)) none
+abbrev pub flag : Bool → ℕ
+flag b = cond b 1 0
 
-unfoldable pub rangingIn : Session → Technology → Bool
-rangingIn s uwb = yes (s .uwb .ranging)
-rangingIn s cs = false
-rangingIn s nan = yes (s .nan .ranging)
-rangingIn s rssi = yes (s .rssi .ranging)
+-- ---- what the session record holds of each technology
+
+-- whether it is ranging, and its settings
+pub record Part (t : Technology) : Type 0 where
+  pub ranging : ℕ
+  pub settings : Settings t
+
+-- it is ranging with its settings in force; with none it is not, and the settings are zero
+abbrev pub partOf : {t : Technology} → Option (Settings t) → Part t
+partOf {t} none = record { ranging = 0; settings = settingsIn (blank configurations) t }
+partOf (some x) = record { ranging = 1; settings = x }
+
+-- the record has no place for CS, which is never ranging at the tag
+abbrev pub partIn : Session → (t : Technology) → Part t
+partIn s uwb = record { ranging = s .uwb .ranging; settings = s .uwb .settings }
+partIn s cs = partOf none
+partIn s nan = record { ranging = s .nan .ranging; settings = s .nan .settings }
+partIn s rssi = record { ranging = s .rssi .ranging; settings = s .rssi .settings }
 
 -- the mark is UWB's
-unfoldable pub markIn : Session → Technology → Bool
-markIn s uwb = yes (s .mark)
-markIn s cs = false
-markIn s nan = false
-markIn s rssi = false
+abbrev pub markIn : Session → Technology → ℕ
+markIn s uwb = s .mark
+markIn s cs = 0
+markIn s nan = 0
+markIn s rssi = 0
 
--- what the record holds of a technology: its settings in force, and zero settings where it is not ranging
-abbrev pub uwbPart : Option UwbConfiguration → UwbState
-uwbPart none = record { ranging = 0; settings = blank configurations .uwb }
-uwbPart (some x) = record { ranging = 1; settings = x }
+-- the record that holds these parts and marks
+abbrev pub sessionWith : Profile → ((t : Technology) → Part t) → (Technology → ℕ) → Session
+sessionWith p part mark = record {
+  profile = p;
+  uwb = record { ranging = part uwb .ranging; settings = part uwb .settings };
+  nan = record { ranging = part nan .ranging; settings = part nan .settings };
+  rssi = record { ranging = part rssi .ranging; settings = part rssi .settings };
+  mark = mark uwb;
+}
 
-abbrev pub nanPart : Option NanConfiguration → NanState
-nanPart none = record { ranging = 0; settings = blank configurations .nan }
-nanPart (some x) = record { ranging = 1; settings = x }
+-- the same record with other parts, or with other marks
+abbrev pub withParts : Session → ((t : Technology) → Part t) → Session
+withParts s part = sessionWith (s .profile) part (markIn s)
 
-abbrev pub rssiPart : Option Rssi → RssiState
-rssiPart none = record { ranging = 0; settings = blank configurations .rssi }
-rssiPart (some x) = record { ranging = 1; settings = x }
+abbrev pub withMarks : Session → (Technology → ℕ) → Session
+withMarks s mark = sessionWith (s .profile) (partIn s) mark
 
-abbrev pub sessionKeeps : Keeps Session
-sessionKeeps = record {
+abbrev pub rangingIn : Session → Technology → Bool
+rangingIn s t = yes (partIn s t .ranging)
+
+-- the settings in force, or none
+abbrev pub inForceIn : Session → (t : Technology) → Option (Settings t)
+inForceIn s t = cond (rangingIn s t) (some (partIn s t .settings)) none
+
+-- ---- the calls
+
+-- What is given out loses its mark. What is set, except CS, ranges with its block's settings. What stops has none, and UWB gets the mark.
+abbrev pub onSession : Operations Session
+onSession = record {
   ranging = rangingIn;
-  barred = markIn;
-  give = λ has s. record { profile = s .profile; uwb = s .uwb; nan = s .nan; rssi = s .rssi; mark = cond (has uwb) 0 (s .mark) };
-  put = λ isSet c s. record {
-    profile = s .profile;
-    uwb = cond (isSet uwb) (uwbPart (some (c .uwb))) (s .uwb);
-    nan = cond (isSet nan) (nanPart (some (c .nan))) (s .nan);
-    rssi = cond (isSet rssi) (rssiPart (some (c .rssi))) (s .rssi);
-    mark = s .mark;
-  };
-  stop = λ ended s. record {
-    profile = s .profile;
-    uwb = cond (ended uwb) (uwbPart none) (s .uwb);
-    nan = cond (ended nan) (nanPart none) (s .nan);
-    rssi = cond (ended rssi) (rssiPart none) (s .rssi);
-    mark = cond (ended uwb) 1 (s .mark);
-  };
+  barred = λ s t. yes (markIn s t);
+  give = λ has s. withMarks s (λ t. cond (has t) 0 (markIn s t));
+  put = λ isSet c s. withParts s (λ t. cond (ranges t && isSet t) (partOf (some (settingsIn c t))) (partIn s t));
+  stop = λ ended s. withMarks (withParts s (λ t. cond (ended t) (partOf none) (partIn s t))) (λ t. cond (bars t && ended t) 1 (markIn s t));
 }
 
 -- a profile that is not valid is refused before all else
 unfoldable pub sessionCall : Session → Call → Checked (Served Session)
-sessionCall s c = demand (validProfile (s .profile)) notValid (call sessionKeeps (s .profile) s c)
+sessionCall s c = demand (validProfile (s .profile)) notValid (call onSession (s .profile) s c)
 
--- what a call that leads to `o` does: the session and the answer that it returns, and the buffer before and after
-pub record Gives (s : Session) (o : Checked (Served Session)) (before : List ℕ) (r : Step) (e : List ℕ) : Type 0 where
-  pub session : r .session ≡ after s o
-  pub answer : r .answer ≡ answerTo o
-  pub buffer : e ≡ bufferAfter o before
+-- what a call that leads to `o` gives: its answer, the session that it returns or leaves, and its buffer before and after
+pub record Gives (s : Session) (o : Checked (Served Session)) (before : List ℕ) (a : Answer) (next : Session) (left : List ℕ) : Type 0 where
+  pub answer : a ≡ answerTo o
+  pub session : next ≡ after s o
+  pub buffer : left ≡ bufferAfter o before
 
--- what a call does that gets the session s: its answer, the session that it returns or leaves, and what it leaves in its buffer
+-- what a call does that gets the session s
 abbrev pub Does : Session → Call → Answer → Session → List ℕ → Type 0
-Does s c answer next left = Gives s (sessionCall s c) (lent c) (record { session = next; answer = answer }) left
+Does s c a next left = Gives s (sessionCall s c) (c .lent) a next left
 
 -- ---- the start
 
 -- a fresh session ranges with nothing
 abbrev pub fresh : Profile → Session
-fresh p = record { profile = p; uwb = uwbPart none; nan = nanPart none; rssi = rssiPart none; mark = 0 }
+fresh p = sessionWith p (λ t. partOf none) (λ t. 0)
 
 abbrev pub emptyProfile : Profile
 emptyProfile = record { set = 0; replies = 0; capability = blank capabilities }

@@ -28,29 +28,29 @@ bars rssi = false
 -- ---- within the profile
 
 -- at most 31 with its bit
-unfoldable pub hasConfigId : ConfigIds → ConfigId → Bool
+abbrev pub hasConfigId : ConfigIds → ConfigId → Bool
 hasConfigId ids x = leb (x .0) 31 && bit (ids .0) (x .0)
 
-unfoldable pub hasChannel : Channels → Channel → Bool
+abbrev pub hasChannel : Channels → Channel → Bool
 hasChannel channels x = leb (x .0) 31 && bit (channels .0) (x .0)
 
 -- 1 to 32 with its bit, which for preamble index n is bit n - 1
-unfoldable pub hasPreambleIndex : PreambleIndexes → PreambleIndex → Bool
+abbrev pub hasPreambleIndex : PreambleIndexes → PreambleIndex → Bool
 hasPreambleIndex indexes x = leb 1 (x .0) && (leb (x .0) 32 && bit (indexes .0) (x .0 - 1))
 
 -- role 1 or 2 with role bit 0x1 or 0x2
-unfoldable pub hasRole : ℕ → ℕ → Bool
+abbrev pub hasRole : ℕ → ℕ → Bool
 hasRole roles role = (eqb role 1 && bit roles 0) || (eqb role 2 && bit roles 1)
 
 -- the settings of a technology lie within what the profile says of it
-unfoldable pub within : (t : Technology) → CapabilityOf t → Settings t → Bool
-within uwb k x =
+abbrev pub withinProfile : (t : Technology) → CapabilityOf t → Settings t → Bool
+withinProfile uwb k x =
     hasConfigId (k .«config_ids») (x .«config_id»)
     && (hasChannel (k .channels) (x .channel)
     && (hasPreambleIndex (k .«preamble_indexes») (x .«preamble_index»)
     && (leb (k .«shortest_interval») (x .interval)
     && (leb (k .«shortest_slot») (x .slot)
     && hasRole (k .roles) (x .role)))))
-within cs k x = bit (k .«security_types») (x .«security_level»)
-within nan k x = not (eqb (x .periodic) 1) || eqb (k .periodic) 1
-within rssi k x = true
+withinProfile cs k x = bit (k .«security_types») (x .«security_level»)
+withinProfile nan k x = not (eqb (x .periodic) 1) || eqb (k .periodic) 1
+withinProfile rssi k x = true

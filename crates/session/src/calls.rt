@@ -26,7 +26,7 @@ ghost use Rattle.codec.specs.Refusal.{demand, notValid};
 ghost use Rattle.codec.specs.Technology.{bit};
 ghost use Rattle.codec.specs.Records.{answer, forTag};
 ghost use Rattle.codec.specs.Message.{reading};
-ghost use Rattle.session.specs.Rules.{message as messageCall, advertisement, validProfile};
+ghost use Rattle.session.specs.Rules.{Said, validProfile};
 ghost use Rattle.session.specs.Session.{Does, profileOf, started};
 
 // A session with an accepted profile, or 12 and a fresh session with an empty one, replies not said.
@@ -79,7 +79,7 @@ fn hear(profile: Profile, octets: &[u8]) -> TagReading
 // A message to the tag. What the answer names is set or stopped where it lies; the settings of a Stop are zero. One return, and a
 // copy of the profile for its test, let the compiler copy the session only in and out.
 pub fn message(s: Session, octets: &[u8], out: &mut [u8]) -> Step
-    ensures { λ r. ⌜ Does s (messageCall (now (octets .entry)) (now (out .entry))) (r .answer) (r .session) (now (out .exit)) ⌝ }
+    ensures { λ r. ⌜ Does s (record { said = Said.message (now (octets .entry)); lent = now (out .entry) }) (r .answer) (r .session) (now (out .exit)) ⌝ }
 {
     let mut session = s;
     let profile = session.profile;
@@ -124,7 +124,7 @@ pub fn message(s: Session, octets: &[u8], out: &mut [u8]) -> Step
 
 // An advertisement of the whole profile.
 pub fn advertise(s: Session, out: &mut [u8]) -> Step
-    ensures { λ r. ⌜ Does s (advertisement (now (out .entry))) (r .answer) (r .session) (now (out .exit)) ⌝ }
+    ensures { λ r. ⌜ Does s (record { said = Said.advertisement; lent = now (out .entry) }) (r .answer) (r .session) (now (out .exit)) ⌝ }
 {
     let mut session = s;
     let mut answer = refusal(NOT_VALID);

@@ -1,4 +1,4 @@
-// Configurations: which technologies one sets.
+// Configurations: which technologies are eligible, and which of them one sets.
 use crate::replies::answered;
 use crate::replies::deliver;
 use crate::state::Answer;
@@ -12,45 +12,45 @@ use codec::both_have;
 use codec::set_of;
 ghost use mathlib.Core.Path.{_≡_};
 ghost use Rattle.codec.specs.Technology.{uwb, cs, nan, rssi};
-ghost use Rattle.session.specs.Rules.{conclude, setBy, configure};
-ghost use Rattle.session.specs.Session.{sessionKeeps};
+ghost use Rattle.session.specs.Rules.{conclude, eligible, configure};
+ghost use Rattle.session.specs.Session.{onSession};
 ghost use Rattle.session.specs.Replies.{Answers};
 
-fn sets_uwb(s: Session, set: u16, c: Configuration) -> bool
-    ensures { λ r. ⌜ r ≡ setBy sessionKeeps (s .profile) set c s uwb ⌝ }
+fn eligible_uwb(s: Session, set: u16, c: Configuration) -> bool
+    ensures { λ r. ⌜ r ≡ eligible (s .profile) set c (onSession .barred s) uwb ⌝ }
 {
     let named = both_have(set, s.profile.set, 0);
     named & (within_uwb(s.profile.capability.uwb, c.uwb) & (s.mark == 0))
 }
 
-fn sets_cs(s: Session, set: u16, c: Configuration) -> bool
-    ensures { λ r. ⌜ r ≡ setBy sessionKeeps (s .profile) set c s cs ⌝ }
+fn eligible_cs(s: Session, set: u16, c: Configuration) -> bool
+    ensures { λ r. ⌜ r ≡ eligible (s .profile) set c (onSession .barred s) cs ⌝ }
 {
     let named = both_have(set, s.profile.set, 1);
     named & within_cs(s.profile.capability.cs, c.cs)
 }
 
-fn sets_nan(s: Session, set: u16, c: Configuration) -> bool
-    ensures { λ r. ⌜ r ≡ setBy sessionKeeps (s .profile) set c s nan ⌝ }
+fn eligible_nan(s: Session, set: u16, c: Configuration) -> bool
+    ensures { λ r. ⌜ r ≡ eligible (s .profile) set c (onSession .barred s) nan ⌝ }
 {
     let named = both_have(set, s.profile.set, 2);
     named & within_nan(s.profile.capability.nan, c.nan)
 }
 
-fn sets_rssi(s: Session, set: u16, c: Configuration) -> bool
-    ensures { λ r. ⌜ r ≡ setBy sessionKeeps (s .profile) set c s rssi ⌝ }
+fn eligible_rssi(s: Session, set: u16, c: Configuration) -> bool
+    ensures { λ r. ⌜ r ≡ eligible (s .profile) set c (onSession .barred s) rssi ⌝ }
 {
     both_have(set, s.profile.set, 3)
 }
 
-// What a Configuration sets, and message 3.
+// What a Configuration sets, which is all that is eligible, and message 3.
 pub(crate) fn configure(s: Session, set: u16, c: Configuration, out: &mut [u8]) -> Answer
-    ensures { λ r. ⌜ Answers (conclude (now (out .entry)) (configure sessionKeeps (s .profile) set c s)) (now (out .entry)) r (now (out .exit)) ⌝ }
+    ensures { λ r. ⌜ Answers (conclude (now (out .entry)) (configure onSession (s .profile) set c s)) (now (out .entry)) r (now (out .exit)) ⌝ }
 {
-    let uwb = sets_uwb(s, set, c);
-    let cs = sets_cs(s, set, c);
-    let nan = sets_nan(s, set, c);
-    let rssi = sets_rssi(s, set, c);
+    let uwb = eligible_uwb(s, set, c);
+    let cs = eligible_cs(s, set, c);
+    let nan = eligible_nan(s, set, c);
+    let rssi = eligible_rssi(s, set, c);
     let those = set_of(uwb, cs, nan, rssi);
     let w = deliver(
         s.profile.replies,

@@ -7,12 +7,12 @@ use codec::SetMessage;
 use codec::has;
 use codec::set_of;
 ghost use Rattle.session.specs.Rules.{conclude, halt};
-ghost use Rattle.session.specs.Session.{sessionKeeps};
+ghost use Rattle.session.specs.Session.{onSession};
 ghost use Rattle.session.specs.Replies.{Answers};
 
 // The technologies named that are ranging, and message 7.
 pub(crate) fn halt(s: Session, set: u16, out: &mut [u8]) -> Answer
-    ensures { λ r. ⌜ Answers (conclude (now (out .entry)) (halt sessionKeeps (s .profile) set s)) (now (out .entry)) r (now (out .exit)) ⌝ }
+    ensures { λ r. ⌜ Answers (conclude (now (out .entry)) (halt onSession (s .profile) set s)) (now (out .entry)) r (now (out .exit)) ⌝ }
 {
     let uwb = has(set, 0) & (s.uwb.ranging != 0);
     let nan = has(set, 2) & (s.nan.ranging != 0);

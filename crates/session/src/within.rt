@@ -15,7 +15,7 @@ ghost use mathlib.Core.Path.{_≡_};
 ghost use mathlib.Core.Bool.{_&&_};
 ghost use lib.Dec.{leb};
 ghost use Rattle.codec.specs.Technology.{uwb, cs, nan, bit};
-ghost use Rattle.session.specs.Within.{hasConfigId, hasChannel, hasPreambleIndex, hasRole, within};
+ghost use Rattle.session.specs.Within.{hasConfigId, hasChannel, hasPreambleIndex, hasRole, withinProfile};
 
 // Whether a number is at most 31 and has its bit.
 fn has_bit(bits: u32, n: u8) -> bool
@@ -61,7 +61,7 @@ fn has_role(roles: u8, role: u8) -> bool
 }
 
 pub(crate) fn within_uwb(k: UwbCapability, x: UwbConfiguration) -> bool
-    ensures { λ r. ⌜ r ≡ within uwb k x ⌝ }
+    ensures { λ r. ⌜ r ≡ withinProfile uwb k x ⌝ }
 {
     let config_id = has_config_id(k.config_ids, x.config_id);
     let channel = has_channel(k.channels, x.channel);
@@ -72,13 +72,13 @@ pub(crate) fn within_uwb(k: UwbCapability, x: UwbConfiguration) -> bool
 }
 
 pub(crate) fn within_cs(k: CsCapability, x: CsConfiguration) -> bool
-    ensures { λ r. ⌜ r ≡ within cs k x ⌝ }
+    ensures { λ r. ⌜ r ≡ withinProfile cs k x ⌝ }
 {
     codec::has(k.security_types as u16, x.security_level)
 }
 
 pub(crate) fn within_nan(k: NanCapability, x: NanConfiguration) -> bool
-    ensures { λ r. ⌜ r ≡ within nan k x ⌝ }
+    ensures { λ r. ⌜ r ≡ withinProfile nan k x ⌝ }
 {
     (x.periodic != 1) | (k.periodic == 1)
 }

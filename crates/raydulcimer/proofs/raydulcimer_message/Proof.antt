@@ -103,7 +103,7 @@ module _ {M : Type 1} (𝓤 : URA M) (H : Heap 𝓤) (A : Atoms 𝓤) (W : Given
 
   -- what the callee ensures of its result and of the buffer's last list
   abbrev Said : Step → List ℕ → Type 0
-  Said t zs = Does h (message (m .now) (x .now)) (t .answer) (t .session) zs
+  Said t zs = Does h (record { said = message (m .now); lent = x .now }) (t .answer) (t .session) zs
 
   exits : (t : Step) (zs : List ℕ) → Said t zs → length zs ≡ length (x .now) → Is R.the-row (t .answer) (LL.vals R.the-type R′.the-laws (t .answer))
       → ent 𝓤 (⋆ 𝓤 H A (‵ (fobs γ (T.the-row .coded .code (t .session))) ∷ ‵ (fbor κ (Body (mem T.the-row) b o γ)) ∷ ‵ (flft κ q) ∷ (‵ (flft κ₁ q₁) ⊛ ‵ (flft κ₂ q₂) ⊛ ‵ ftrue) ∷ ‵ (finally u8 (x .name) zs) ∷ [])) (Post (LL.val R.the-type R′.the-laws (t .answer)))

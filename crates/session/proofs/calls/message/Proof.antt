@@ -2,37 +2,44 @@ use lib.ListN.{length}
 use native.Mathlib.Omega.{arith}
 use mathlib.Core.Bool.{Bool, true, false}
 use mathlib.Core.Logic.{⊎-elim}
-use mathlib.Core.Path.{_≡_, _∙_, sym, subst}
+use mathlib.Core.Path.{_≡_, _∙_, sym, ap, subst}
 use Rattle.codec.specs.Technology.{uwb, nan, rssi, names}
-use Rattle.session.specs.Rules.{message}
-use Rattle.session.specs.Session.{sessionKeeps, sessionCall, Gives}
-use Rattle.session.proofs.Steps.{alone, not-heard, heard-valid, heard-unset, ends, a-request, a-configuration, a-stop, another, given, follow, follow-none, follow-configure, follow-halt, with-session}
+use Rattle.session.specs.Rules.{message, request, configuration, stop, kindOf}
+use Rattle.session.specs.declared.state.Session.{Session}
+use Rattle.session.specs.Session.{onSession, sessionCall, Gives}
+use Rattle.session.proofs.Steps.{alone, not-heard, was-heard, heard-unset, ends, a-message, another, given, follow, follow-none, follow-configure, follow-halt, with-session}
 use borrow.Author.Needs.{needs}
 use Rattle.session.proofs.calls.message.Statement.{statement}
 use Rattle.session.proofs.calls.message.Tie as tie
 
+-- what the call gives once its message is read, served and answered
+Answered : tie.Joined1 → Session → Type 0
+Answered c next = let a = c .before .before .before .before .before .before .before .before .args in
+    Gives (a .s) (sessionCall (a .s) (record { said = message (a .octets .now); lent = a .out .now })) (a .out .now) (c .if1 .answer) next (c .if1 .out)
+
 -- what the kinds of message answer
-by-kind : (c : tie.Joined1) → let a = c .before .before .before .before .before .before .before .before .args in let h = c .before .before .before .before .hear in
-    Gives (a .s) (sessionCall (a .s) (message (a .octets .now) (a .out .now))) (a .out .now) (record { session = follow (h .result .configuration) (c .if1 .answer) (c .if1 .session); answer = c .if1 .answer }) (c .if1 .out)
-by-kind c = let a = c .before .before .before .before .before .before .before .before .args in let h = c .before .before .before .before .hear in ⊎-elim
-    (λ w. rw (w .9, w .10, w .11, w .8 .ensures) (with-session (follow-none (h .result .configuration) (w .4 .result) _) (a-request (a .s) (a .octets .now) (a .out .now) (h .ensures) (w .0 .taken) (w .1 .keys1) (given (a .s) (h .result .set) (w .2 .ensures) (w .7 .ensures) (heard-valid (a .s) (a .octets .now) (a .out .now) (h .ensures) (w .0 .taken)) (w .4 .ensures)))))
+by-kind : (c : tie.Joined1) → Answered c (follow (c .before .before .before .before .hear .result .configuration) (c .if1 .answer) (c .if1 .session))
+unfolding Answered
+by-kind c = let a = c .before .before .before .before .before .before .before .before .args in let h = c .before .before .before .before .hear in
+    let s = a .s in let m = a .octets .now in let b = a .out .now in ⊎-elim
+    (λ w. rw (w .9, w .10, w .11, w .8 .ensures) (with-session (follow-none (h .result .configuration) (w .4 .result) _) (a-message s m b (h .ensures) (w .0 .taken) {k = request} (ap kindOf (w .1 .keys1)) (given s (h .result .set) (w .2 .ensures) (w .7 .ensures) (was-heard s m b (h .ensures) (w .0 .taken) .0) (w .4 .ensures)))))
     (⊎-elim
-    (λ w. rw (w .6, w .7, w .8) (a-configuration (a .s) (a .octets .now) (a .out .now) (h .ensures) (w .0 .taken) (w .1 .keys2) (record { session = rw (w .3 .ensures .answer) (follow-configure (a .s) (h .result .set) (a .out .now) (h .result .configuration)); answer = w .3 .ensures .answer; buffer = w .3 .ensures .buffer })))
+    (λ w. rw (w .6, w .7, w .8) (a-message s m b (h .ensures) (w .0 .taken) {k = configuration} (ap kindOf (w .1 .keys2)) (record { answer = w .3 .ensures .answer; session = rw (w .3 .ensures .answer) (follow-configure s (h .result .set) b (h .result .configuration)); buffer = w .3 .ensures .buffer })))
     (⊎-elim
-    (λ w. rw (w .6, w .7, w .8) (a-stop (a .s) (a .octets .now) (a .out .now) (h .ensures) (w .0 .taken) (w .1 .keys3) (record { session = rw (w .3 .ensures .answer) (follow-halt (a .s) (h .result .set) (a .out .now) (heard-unset (a .s) (a .octets .now) (a .out .now) (h .ensures) λ e. omega (arith, w .1 .keys3, e))); answer = w .3 .ensures .answer; buffer = w .3 .ensures .buffer })))
+    (λ w. rw (w .6, w .7, w .8) (a-message s m b (h .ensures) (w .0 .taken) {k = stop} (ap kindOf (w .1 .keys3)) (record { answer = w .3 .ensures .answer; session = rw (w .3 .ensures .answer) (follow-halt s (h .result .set) b (heard-unset s m b (h .ensures) λ e. omega (arith, w .1 .keys3, e))); buffer = w .3 .ensures .buffer })))
     (⊎-elim
-    (λ w. let no = w .1 .rest in rw (w .3, w .4, w .5, w .2 .ensures) (another (a .s) (a .octets .now) (a .out .now) (h .ensures) (w .0 .taken) (no .0 .0 .1) (no .0 .1) (no .1)))
-    (λ w. rw (w .1, w .2, w .3, c .before .before .refusal .ensures) (not-heard (a .s) (a .octets .now) (a .out .now) (h .ensures) (w .0 .left))))))
+    (λ w. let no = w .1 .rest in rw (w .3, w .4, w .5, w .2 .ensures) (another s m b (h .ensures) (w .0 .taken) (no .0 .0 .1) (no .0 .1) (no .1)))
+    (λ w. rw (w .1, w .2, w .3, c .before .before .refusal .ensures) (not-heard s m b (h .ensures) (w .0 .left))))))
     (c .if1 .came)
 
 -- what the answer names is set
-set-uwb : (c : tie.Joined2) → let k = c .before .before in c .if2 .session ≡ sessionKeeps .put (alone uwb (names (k .if1 .answer .set) uwb)) (k .before .before .before .before .hear .result .configuration) (k .if1 .session)
+set-uwb : (c : tie.Joined2) → let k = c .before .before in c .if2 .session ≡ onSession .put (alone uwb (names (k .if1 .answer .set) uwb)) (k .before .before .before .before .hear .result .configuration) (k .if1 .session)
 set-uwb c = ⊎-elim (λ w. rw (w .2, w .1 .ensures, sym (c .before .has .ensures) ∙ w .0 .taken)) (λ w. rw (w .1, sym (c .before .has .ensures) ∙ w .0 .left)) (c .if2 .came)
 
-set-nan : (c : tie.Joined3) → let k = c .before .before .before .before in c .if3 .session ≡ sessionKeeps .put (alone nan (names (k .if1 .answer .set) nan)) (k .before .before .before .before .hear .result .configuration) (c .before .before .if2 .session)
+set-nan : (c : tie.Joined3) → let k = c .before .before .before .before in c .if3 .session ≡ onSession .put (alone nan (names (k .if1 .answer .set) nan)) (k .before .before .before .before .hear .result .configuration) (c .before .before .if2 .session)
 set-nan c = ⊎-elim (λ w. rw (w .2, w .1 .ensures, sym (c .before .has2 .ensures) ∙ w .0 .taken)) (λ w. rw (w .1, sym (c .before .has2 .ensures) ∙ w .0 .left)) (c .if3 .came)
 
-set-rssi : (c : tie.Joined4) → let k = c .before .before .before .before .before .before in c .if4 .session ≡ sessionKeeps .put (alone rssi (names (k .if1 .answer .set) rssi)) (k .before .before .before .before .hear .result .configuration) (c .before .before .if3 .session)
+set-rssi : (c : tie.Joined4) → let k = c .before .before .before .before .before .before in c .if4 .session ≡ onSession .put (alone rssi (names (k .if1 .answer .set) rssi)) (k .before .before .before .before .hear .result .configuration) (c .before .before .if3 .session)
 set-rssi c = ⊎-elim (λ w. rw (w .2, w .1 .ensures, sym (c .before .has3 .ensures) ∙ w .0 .taken)) (λ w. rw (w .1, sym (c .before .has3 .ensures) ∙ w .0 .left)) (c .if4 .came)
 
 -- and stopped
@@ -46,114 +53,54 @@ all-followed : (c : tie.Joined6) → let k = c .before .before .before .before .
     ends (alone rssi (names (k .if1 .answer .stopped) rssi)) (k .before .before .before .before .hear .result .configuration) (c .if6 .session) ≡ follow (k .before .before .before .before .hear .result .configuration) (k .if1 .answer) (k .if1 .session)
 all-followed c = rw (stop-nan c, stop-uwb (c .before .before), set-rssi (c .before .before .before .before), set-nan (c .before .before .before .before .before .before), set-uwb (c .before .before .before .before .before .before .before .before))
 
-finish : (c : tie.Joined6) (ended : Bool) → let k = c .before .before .before .before .before .before .before .before .before .before in let a = k .before .before .before .before .before .before .before .before .args in names (k .if1 .answer .stopped) rssi ≡ ended
-    → Gives (a .s) (sessionCall (a .s) (message (a .octets .now) (a .out .now))) (a .out .now) (record { session = ends (alone rssi ended) (k .before .before .before .before .hear .result .configuration) (c .if6 .session); answer = k .if1 .answer }) (k .if1 .out)
+finish : (c : tie.Joined6) (ended : Bool) → let k = c .before .before .before .before .before .before .before .before .before .before in names (k .if1 .answer .stopped) rssi ≡ ended
+    → Answered k (ends (alone rssi ended) (k .before .before .before .before .hear .result .configuration) (c .if6 .session))
+unfolding Answered
 finish c ended h = let k = c .before .before .before .before .before .before .before .before .before .before in
     with-session (subst (λ (x : Bool). ends (alone rssi x) (k .before .before .before .before .hear .result .configuration) (c .if6 .session) ≡ follow (k .before .before .before .before .hear .result .configuration) (k .if1 .answer) (k .if1 .session)) h (all-followed c)) (by-kind k)
 
 kept : (c : tie.Joined1) → length (c .if1 .out) ≡ length (c .before .before .before .before .before .before .before .before .args .out .now)
 kept c = ⊎-elim (λ w. rw (w .9) (w .5 .given)) (⊎-elim (λ w. rw (w .6) (w .4 .given)) (⊎-elim (λ w. rw (w .6) (w .4 .given)) (⊎-elim (λ w. rw (w .3)) (λ w. rw (w .1))))) (c .if1 .came)
 
-hear-requires : tie.Need-hear-requires
-hear-requires c κs = search needs
-
-refusal-requires : tie.Need-refusal-requires
-refusal-requires c κs = search needs
-
-common-requires : tie.Need-common-requires
-common-requires c κs = search needs
-
-write-capability-response-requires : tie.Need-write-capability-response-requires
-write-capability-response-requires c κs = search needs
-
-mark-given-requires : tie.Need-mark-given-requires
-mark-given-requires c κs = search needs
-
-answered-requires : tie.Need-answered-requires
-answered-requires c κs = search needs
-
-configure-requires : tie.Need-configure-requires
-configure-requires c κs = search needs
-
-halt-requires : tie.Need-halt-requires
-halt-requires c κs = search needs
-
-refusal-requires-2 : tie.Need-refusal-requires-2
-refusal-requires-2 c κs = search needs
-
-has-requires : tie.Need-has-requires
-has-requires c κs = search needs
-
-uwb-state-requires : tie.Need-uwb-state-requires
-uwb-state-requires c κs = search needs
-
-has-requires-2 : tie.Need-has-requires-2
-has-requires-2 c κs = search needs
-
-nan-state-requires : tie.Need-nan-state-requires
-nan-state-requires c κs = search needs
-
-has-requires-3 : tie.Need-has-requires-3
-has-requires-3 c κs = search needs
-
-rssi-state-requires : tie.Need-rssi-state-requires
-rssi-state-requires c κs = search needs
-
-has-requires-4 : tie.Need-has-requires-4
-has-requires-4 c κs = search needs
-
-uwb-state-requires-2 : tie.Need-uwb-state-requires-2
-uwb-state-requires-2 c κs = search needs
-
-has-requires-5 : tie.Need-has-requires-5
-has-requires-5 c κs = search needs
-
-nan-state-requires-2 : tie.Need-nan-state-requires-2
-nan-state-requires-2 c κs = search needs
-
-has-requires-6 : tie.Need-has-requires-6
-has-requires-6 c κs = search needs
-
-rssi-state-requires-2 : tie.Need-rssi-state-requires-2
-rssi-state-requires-2 c κs = search needs
-
 same-length : tie.Need-same-length
 same-length c = kept (c .before .before .before .before .before .before .before .before .before .before .before .before .before)
 
 returns : tie.Need-returns
+unfolding Answered
 returns c = rw (c .rssi-state2 .ensures) (finish (c .before .before .before) true (sym (c .before .before .has6 .ensures) ∙ c .before .if7 .taken))
 
 same-length-2 : tie.Need-same-length-2
 same-length-2 c = kept (c .before .before .before .before .before .before .before .before .before .before .before .before)
 
 returns-2 : tie.Need-returns-2
+unfolding Answered
 returns-2 c = finish (c .before .before) false (sym (c .before .has6 .ensures) ∙ c .if7 .left)
 
 pub message-spec : {M : Type 1} → statement M
 message-spec =
     tie.close
     (tie.spec
-    hear-requires
-    refusal-requires
-    common-requires
-    write-capability-response-requires
-    mark-given-requires
-    answered-requires
-    configure-requires
-    halt-requires
-    refusal-requires-2
-    has-requires
-    uwb-state-requires
-    has-requires-2
-    nan-state-requires
-    has-requires-3
-    rssi-state-requires
-    has-requires-4
-    uwb-state-requires-2
-    has-requires-5
-    nan-state-requires-2
-    has-requires-6
-    rssi-state-requires-2
+    (search needs)
+    (search needs)
+    (search needs)
+    (search needs)
+    (search needs)
+    (search needs)
+    (search needs)
+    (search needs)
+    (search needs)
+    (search needs)
+    (search needs)
+    (search needs)
+    (search needs)
+    (search needs)
+    (search needs)
+    (search needs)
+    (search needs)
+    (search needs)
+    (search needs)
+    (search needs)
+    (search needs)
     same-length
     returns
     same-length-2

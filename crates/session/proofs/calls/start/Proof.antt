@@ -11,23 +11,8 @@ use Rattle.session.proofs.calls.start.Tie as tie
 tested : (c : tie.After-is-zero-configuration) → (((eqb (c .before .before .before .args .profile .id) 1 && c .before .valid-response .result) && c .is-zero-configuration .result) && ltb (c .before .before .before .args .replies) 3) ≡ ((eqb (c .before .before .before .args .profile .id) 1 && valid (c .before .before .before .args .profile)) && ltb (c .before .before .before .args .replies) 3)
 tested c = rw (c .before .valid-response .ensures, c .is-zero-configuration .ensures, start-tested (c .before .before .before .args .profile))
 
-valid-response-requires : tie.Need-valid-response-requires
-valid-response-requires c κs = search needs
-
-is-zero-configuration-requires : tie.Need-is-zero-configuration-requires
-is-zero-configuration-requires c κs = search needs
-
-zero-capability-requires : tie.Need-zero-capability-requires
-zero-capability-requires c κs = search needs
-
-fresh-requires : tie.Need-fresh-requires
-fresh-requires c κs = search needs
-
 returns : tie.Need-returns
 returns c = rw (c .fresh .ensures, c .before .zero-capability .ensures, start-refused (c .before .before .before .before .before .before .args .profile) (c .before .before .before .before .before .before .args .replies) (failed (tested (c .before .before .before)) (c .before .before .if1 .taken)))
-
-fresh-requires-2 : tie.Need-fresh-requires-2
-fresh-requires-2 c κs = search needs
 
 returns-2 : tie.Need-returns-2
 returns-2 c = rw (c .fresh2 .ensures, start-accepted (c .before .before .before .before .before .before .args .profile) (c .before .before .before .before .before .before .args .replies) (passed (tested (c .before .before .before)) (c .before .before .if1 .left)))
@@ -36,10 +21,10 @@ pub start-spec : {M : Type 1} → statement M
 start-spec =
     tie.close
     (tie.spec
-    valid-response-requires
-    is-zero-configuration-requires
-    zero-capability-requires
-    fresh-requires
+    (search needs)
+    (search needs)
+    (search needs)
+    (search needs)
     returns
-    fresh-requires-2
+    (search needs)
     returns-2)

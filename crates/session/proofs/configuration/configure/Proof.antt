@@ -1,51 +1,31 @@
 use mathlib.Core.List.{[], _∷_}
-use Rattle.session.specs.Rules.{configure}
-use Rattle.session.specs.Session.{sessionKeeps}
+use Rattle.session.specs.Rules.{setBy, configure}
+use Rattle.session.specs.Session.{onSession}
 use Rattle.codec.proofs.SetLaws.{bits-below}
 use Rattle.session.proofs.Steps.{settled}
 use borrow.Author.Needs.{needs}
 use Rattle.session.proofs.configuration.configure.Statement.{statement}
 use Rattle.session.proofs.configuration.configure.Tie as tie
 
-sets-uwb-requires : tie.Need-sets-uwb-requires
-sets-uwb-requires c κs = search needs
-
-sets-cs-requires : tie.Need-sets-cs-requires
-sets-cs-requires c κs = search needs
-
-sets-nan-requires : tie.Need-sets-nan-requires
-sets-nan-requires c κs = search needs
-
-sets-rssi-requires : tie.Need-sets-rssi-requires
-sets-rssi-requires c κs = search needs
-
-set-of-requires : tie.Need-set-of-requires
-set-of-requires c κs = search needs
-
 deliver-requires : tie.Need-deliver-requires
-deliver-requires c κs = rw (c .before .set-of .ensures) (bits-below ((c .before .before .before .before .before .sets-uwb .result) ∷ (c .before .before .before .before .sets-cs .result) ∷ (c .before .before .before .sets-nan .result) ∷ (c .before .before .sets-rssi .result) ∷ []))
-
-answered-requires : tie.Need-answered-requires
-answered-requires c κs = search needs
-
-same-length : tie.Need-same-length
-same-length c = search needs
+deliver-requires c κs = rw (c .before .set-of .ensures) (bits-below ((c .before .before .before .before .before .eligible-uwb .result) ∷ (c .before .before .before .before .eligible-cs .result) ∷ (c .before .before .before .eligible-nan .result) ∷ (c .before .before .eligible-rssi .result) ∷ []))
 
 returns : tie.Need-returns
+unfolding setBy
 returns c = let s = c .before .before .before .before .before .before .before .before .before .before .before .args .s in
-    let k = rw (c .before .before .before .before .before .before .before .before .before .sets-uwb .ensures, c .before .before .before .before .before .before .before .before .sets-cs .ensures, c .before .before .before .before .before .before .before .sets-nan .ensures, c .before .before .before .before .before .before .sets-rssi .ensures) at (c .before .before .before .before .before .set-of .ensures) in
-    rw (c .answered .ensures, k) (settled (configure sessionKeeps (s .profile) (c .before .before .before .before .before .before .before .before .before .before .before .args .set) (c .before .before .before .before .before .before .before .before .before .before .before .args .c) s) (rw k at (c .before .before .before .deliver .ensures)))
+    let k = rw (c .before .before .before .before .before .before .before .before .before .eligible-uwb .ensures, c .before .before .before .before .before .before .before .before .eligible-cs .ensures, c .before .before .before .before .before .before .before .eligible-nan .ensures, c .before .before .before .before .before .before .eligible-rssi .ensures) at (c .before .before .before .before .before .set-of .ensures) in
+    rw (c .answered .ensures, k) (settled (configure onSession (s .profile) (c .before .before .before .before .before .before .before .before .before .before .before .args .set) (c .before .before .before .before .before .before .before .before .before .before .before .args .c) s) (rw k at (c .before .before .before .deliver .ensures)))
 
 pub configure-spec : {M : Type 1} → statement M
 configure-spec =
     tie.close
     (tie.spec
-    sets-uwb-requires
-    sets-cs-requires
-    sets-nan-requires
-    sets-rssi-requires
-    set-of-requires
+    (search needs)
+    (search needs)
+    (search needs)
+    (search needs)
+    (search needs)
     deliver-requires
-    answered-requires
-    same-length
+    (search needs)
+    (search needs)
     returns)

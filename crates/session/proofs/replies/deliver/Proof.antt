@@ -7,14 +7,8 @@ use Rattle.session.proofs.replies.deliver.Tie as tie
 returns : tie.Need-returns
 returns c = rw (eq-eqb (c .before .before .args .replies) 2 (c .if1 .taken)) (silent (c .before .before .args .out .now))
 
-write-set-requires : tie.Need-write-set-requires
-write-set-requires c κs = search needs
-
-same-length : tie.Need-same-length
-same-length c = search needs
-
 returns-2 : tie.Need-returns-2
 returns-2 c = rw (ne-eqb (c .before .before .before .before .before .before .args .replies) 2 (c .before .before .before .before .if1 .left)) (set-delivered (c .before .before .before .before .before .before .args .message) (c .before .before .before .before .before .before .pre) (c .before .before .write-set .ensures))
 
 pub deliver-spec : {M : Type 1} → statement M
-deliver-spec = tie.close (tie.spec returns write-set-requires same-length returns-2)
+deliver-spec = tie.close (tie.spec returns (search needs) (search needs) returns-2)

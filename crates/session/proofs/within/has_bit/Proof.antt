@@ -3,9 +3,6 @@ use borrow.Author.Needs.{needs}
 use Rattle.session.proofs.within.has_bit.Statement.{statement}
 use Rattle.session.proofs.within.has_bit.Tie as tie
 
-shr-result : tie.Need-shr-result
-shr-result c = search needs
-
 returns : tie.Need-returns
 returns c = rw (le-leb (c .before .args .n) 31 (c .if1 .taken))
 
@@ -13,4 +10,4 @@ returns-2 : tie.Need-returns-2
 returns-2 c = rw (lt-leb (c .before .args .n) 31 (c .if1 .left))
 
 pub has-bit-spec : {M : Type 1} → statement M
-has-bit-spec = tie.close (tie.spec shr-result returns returns-2)
+has-bit-spec = tie.close (tie.spec (search needs) returns returns-2)

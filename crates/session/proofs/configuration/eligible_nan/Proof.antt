@@ -1,0 +1,12 @@
+use mathlib.Core.Bool.{and-assoc, and-true}
+use Rattle.session.specs.Rules.{eligible}
+use borrow.Author.Needs.{needs}
+use Rattle.session.proofs.configuration.eligible_nan.Statement.{statement}
+use Rattle.session.proofs.configuration.eligible_nan.Tie as tie
+
+returns : tie.Need-returns
+unfolding eligible
+returns c = simp (c .before .both-have .ensures, c .within-nan .ensures, and-assoc, and-true)
+
+pub eligible-nan-spec : {M : Type 1} → statement M
+eligible-nan-spec = tie.close (tie.spec (search needs) (search needs) returns)
