@@ -1,1 +1,4 @@
-pub mod Machine
+pub mod Beside
+pub mod ByReference
+pub mod Locals
+pub mod Session
