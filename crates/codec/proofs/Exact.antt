@@ -17,7 +17,7 @@ use Rattle.codec.specs.Records.{accepted, answer}
 use Rattle.codec.specs.WellFormed.{sets, WellFormed}
 use Rattle.codec.specs.declared.records.Record.{Record}
 use Rattle.codec.specs.declared.records.Reading.{Reading}
-use Rattle.codec.proofs.Laws.{after, room, back-LE, forth-LE}
+use Rattle.codec.proofs.Laws.{beyond, room, back-LE, forth-LE}
 use Rattle.codec.proofs.Outcomes.{by-bool, no-zero, and-true, or-true, demanded}
 use Rattle.codec.proofs.Rows.{times-one, times-two}
 use Rattle.codec.proofs.Walks.{fresh-noId, walked, walks}
@@ -40,13 +40,13 @@ sets-lie (suc (suc (suc times))) m s t o h a = absurd (omega arith)
 after-sets : (times set : ℕ) (m rest : List ℕ) → 1 ≤ times → times ≤ 2 → set < 65536 → 2 ≤ length m → drop 2 m ≡ sets times set ++ rest
     → (blocksAt times ≤ length m) × (setsAgree times m ≡ true) × (drop (blocksAt times) m ≡ rest) × (setOf m ≡ set)
 after-sets zero set m rest o t s u e = absurd (omega arith)
-after-sets (suc zero) set m rest o t s u e = (room 2 2 m (toLE 2 set) rest u e refl, refl, after 2 2 m (toLE 2 set) rest e refl, back-LE 2 set 2 m rest s e)
+after-sets (suc zero) set m rest o t s u e = (room 2 2 m (toLE 2 set) rest u e refl, refl, beyond 2 2 m (toLE 2 set) rest e refl, back-LE 2 set 2 m rest s e)
 after-sets (suc (suc zero)) set m rest o t s u e =
     let f = toLE 2 set ++ rest in
-    let d = after 2 2 m (toLE 2 set) f e refl in
+    let d = beyond 2 2 m (toLE 2 set) f e refl in
     let q = back-LE 2 set 2 m f s e in
     let p = back-LE 2 set 4 m rest s d in
-    (room 4 2 m (toLE 2 set) rest (room 2 2 m (toLE 2 set) f u e refl) d refl, eq-eqb (ofLE 2 2 m) (ofLE 2 4 m) (q ∙ sym p), after 4 2 m (toLE 2 set) rest d refl, q)
+    (room 4 2 m (toLE 2 set) rest (room 2 2 m (toLE 2 set) f u e refl) d refl, eq-eqb (ofLE 2 2 m) (ofLE 2 4 m) (q ∙ sym p), beyond 4 2 m (toLE 2 set) rest d refl, q)
 after-sets (suc (suc (suc times))) set m rest o t s u e = absurd (omega arith)
 
 head-two : (m : List ℕ) → 2 ≤ length m → m ≡ getD m 0 0 ∷ (getD m 1 0 ∷ drop 2 m)
@@ -138,7 +138,7 @@ module _ (m : List ℕ) (o : Octets m) (r : Record) (f : WellFormed m r) where
       by-bool (eqb (versionOf m) 1)
       (λ y.
       let v : f .version ≡ 1 = sym version-is ∙ eqb-true (versionOf m) 1 y in
-      let d : drop end m ≡ [] = after (blocksAt (R .times)) (length (flatten (f .blocks))) m (flatten (f .blocks)) (f .rest) (placed .2) refl ∙ f .ends v in
+      let d : drop end m ≡ [] = beyond (blocksAt (R .times)) (length (flatten (f .blocks))) m (flatten (f .blocks)) (f .rest) (placed .2) refl ∙ f .ends v in
       let n : length m - end ≡ 0 = sym (length-drop end m) ∙ ap length d in
       rw (y, le-ltb end (length m) (omega arith)))
       (λ n. rw n)

@@ -11,7 +11,7 @@ use lib.Seq.{take-at, drop-at, take-add, length-take-le}
 use borrow.Author.Tests.{eqb-true}
 use Rattle.codec.specs.Octets.{Octets, allZero, part, ofLE, toLE}
 use Rattle.codec.specs.Layout.{Test, Layout, number, octets, counted, test, spelled, Values, zeroes, allowed, Typed, cleared, zeroed, write, value, need}
-use Rattle.codec.proofs.Laws.{part-length, octets-take, octets-part, head-at, after, room, here, long-LE, back-LE, forth-LE}
+use Rattle.codec.proofs.Laws.{part-length, octets-take, octets-part, head-at, beyond, room, here, long-LE, back-LE, forth-LE}
 use Rattle.codec.proofs.Outcomes.{and-true}
 use Rattle.codec.proofs.Layouts.{fits, bounded, bounded-le, need-from}
 
@@ -123,13 +123,13 @@ back (number x w t ∷ L) f at v s r u h a k e =
     let q = write L (v .1) ++ r in
     let e₁ = e ∙ append-assoc o (write L (v .1)) r in
     let n : ofLE w at s ≡ v .0 = back-LE w (v .0) at s q (h .0) e₁ in
-    let m = back L f (at + w) (v .1) s r (room at w s o q u e₁ (long-LE w (v .0))) (h .1) (and-true (test t (v .0)) (allowed L (v .1)) a .1) k (after at w s o q e₁ (long-LE w (v .0))) in
+    let m = back L f (at + w) (v .1) s r (room at w s o q u e₁ (long-LE w (v .0))) (h .1) (and-true (test t (v .0)) (allowed L (v .1)) a .1) k (beyond at w s o q e₁ (long-LE w (v .0))) in
     ((λ i. (n i, m .0 i)), simp length-append (omega (arith, m .1, long-LE w (v .0))))
 back (octets x n t ∷ L) f at v s r u h a k e =
     let q = write L (v .1) ++ r in
     let e₁ = e ∙ append-assoc (v .0) (write L (v .1)) r in
     let p : part at n s ≡ v .0 = here at n s (v .0) q e₁ (h .0) in
-    let m = back L f (at + n) (v .1) s r (room at n s (v .0) q u e₁ (h .0)) (h .1 .1) (and-true (spelled t (v .0)) (allowed L (v .1)) a .1) k (after at n s (v .0) q e₁ (h .0)) in
+    let m = back L f (at + n) (v .1) s r (room at n s (v .0) q u e₁ (h .0)) (h .1 .1) (and-true (spelled t (v .0)) (allowed L (v .1)) a .1) k (beyond at n s (v .0) q e₁ (h .0)) in
     ((λ i. (p i, m .0 i)), simp length-append (omega (arith, m .1, h .0)))
 back (counted y x t c ∷ L) f at v s r u h a k e =
     counted-apart t c L f (v .0) (v .1 .0) (v .1 .1) (h .1 .0) a λ g b n a₁.
@@ -138,12 +138,12 @@ back (counted y x t c ∷ L) f at v s r u h a k e =
     let q = write L (v .1 .1) ++ r in
     let e₁ = e ∙ ap (λ (l : List ℕ). v .0 ∷ l) (append-assoc o (write L (v .1 .1)) r) in
     let l : getD s at 0 ≡ v .0 = head-at at s ∙ ap (λ (l : List ℕ). getD l 0 0) e₁ in
-    let e₂ : drop (at + 1) s ≡ o ++ q = after at 1 s (v .0 ∷ []) (o ++ q) e₁ refl in
+    let e₂ : drop (at + 1) s ≡ o ++ q = beyond at 1 s (v .0 ∷ []) (o ++ q) e₁ refl in
     let u₁ = room at 1 s (v .0 ∷ []) (o ++ q) u e₁ refl in
     let p : part (at + 1) (v .0) s ≡ o = here (at + 1) (v .0) s o q e₂ n in
     let d : length (drop (v .0) (v .1 .0)) ≡ c - v .0 = simp length-drop (omega (arith, h .1 .0)) in
     let w : o ++ replicate (c - v .0) 0 ≡ v .1 .0 = rw (← d, ← zeros-are (drop (v .0) (v .1 .0)) (z .0)) (take-append-drop (v .0) (v .1 .0)) in
-    let m = back L g (at + 1 + v .0) (v .1 .1) s r (room (at + 1) (v .0) s o q u₁ e₂ n) (h .1 .1 .1) a₁ (z .1) (after (at + 1) (v .0) s o q e₂ n) in
+    let m = back L g (at + 1 + v .0) (v .1 .1) s r (room (at + 1) (v .0) s o q u₁ e₂ n) (h .1 .1 .1) a₁ (z .1) (beyond (at + 1) (v .0) s o q e₂ n) in
     (rw l (λ i. (v .0, ((ap (λ (x : List ℕ). x ++ replicate (c - v .0) 0) p ∙ w) i, m .0 i))), rw l (simp length-append (omega (arith, m .1, n))))
 
 -- ---- what was read is written as it stood

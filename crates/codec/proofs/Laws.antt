@@ -42,8 +42,8 @@ octets-part at n s o = octets-take n (drop at s) (octets-drop at s o)
 pub head-at : (at : ℕ) (s : List ℕ) → getD s at 0 ≡ getD (drop at s) 0 0
 head-at at s = sym (getD-drop at s 0 0 ∙ rw add-zero)
 
-pub after : (at n : ℕ) (s a r : List ℕ) → drop at s ≡ a ++ r → length a ≡ n → drop (at + n) s ≡ r
-after at n s a r e h = sym (drop-drop n at s) ∙ ap (drop n) e ∙ drop-at a r n h
+pub beyond : (at n : ℕ) (s a r : List ℕ) → drop at s ≡ a ++ r → length a ≡ n → drop (at + n) s ≡ r
+beyond at n s a r e h = sym (drop-drop n at s) ∙ ap (drop n) e ∙ drop-at a r n h
 
 pub room : (at n : ℕ) (s a r : List ℕ) → at ≤ length s → drop at s ≡ a ++ r → length a ≡ n → at + n ≤ length s
 room at n s a r u e h =
@@ -111,7 +111,7 @@ back-LE (suc zero) x at s r h e = head-at at s ∙ ap (λ (l : List ℕ). getD l
 back-LE (suc (suc w)) x at s r h e =
     let p : x < 256 ^ suc w * 256 = rw pow-suc at h in
     let a : getD s at 0 ≡ x % 256 = head-at at s ∙ ap (λ (l : List ℕ). getD l 0 0) e in
-    let b = back-LE (suc w) (x / 256) (at + 1) s r (omega arith) (after at 1 s (x % 256 ∷ []) (toLE (suc w) (x / 256) ++ r) e refl) in
+    let b = back-LE (suc w) (x / 256) (at + 1) s r (omega arith) (beyond at 1 s (x % 256 ∷ []) (toLE (suc w) (x / 256) ++ r) e refl) in
     rw (a, b) (omega arith)
 
 pub forth-LE : (w at : ℕ) (s : List ℕ) → Octets s → at + w ≤ length s → toLE w (ofLE w at s) ≡ part at w s

@@ -14,7 +14,7 @@ use Rattle.codec.specs.Layout.{Layout, least}
 use Rattle.codec.specs.Technology.{bit}
 use Rattle.codec.specs.Message.{blockAt, also, noId, blockFault, Walked, prepend, walk}
 use Rattle.codec.specs.WellFormed.{Whole, Each, Once}
-use Rattle.codec.proofs.Laws.{head-at, after, room, here}
+use Rattle.codec.proofs.Laws.{head-at, beyond, room, here}
 use Rattle.codec.proofs.Outcomes.{and-true, or-false, chained}
 use Rattle.codec.proofs.Layouts.{least-from, least-need, no-fault, fault-none}
 use Rattle.codec.proofs.WalkCases.{Sound, sound}
@@ -124,5 +124,5 @@ module _ (layouts : ℕ → Layout) (set : ℕ) (m : List ℕ) where
   walks (b ∷ blocks) came at rest u e w f o =
       let r = flatten blocks ++ rest in
       let e₁ : drop at m ≡ b ++ r = e ∙ append-assoc b (flatten blocks) rest in
-      let ih = walks blocks (also (getD b 0 0) came) (at + length b) rest (room at (length b) m b r u e₁ refl) (after at (length b) m b r e₁ refl) (w .1) (fresh-also (getD b 0 0) came blocks (f .1) (o .0)) (o .1) in
+      let ih = walks blocks (also (getD b 0 0) came) (at + length b) rest (room at (length b) m b r u e₁ refl) (beyond at (length b) m b r e₁ refl) (w .1) (fresh-also (getD b 0 0) came blocks (f .1) (o .0)) (o .1) in
       rw (passes came at b r u e₁ (w .0) (f .0), first came at b r u e₁ (w .0), size came at b r u e₁ (w .0), here at (length b) m b r e₁ refl, ih, length-append b (flatten blocks), add-assoc at (length b) (length (flatten blocks)))

@@ -15,6 +15,7 @@ use crate::records::refused_for_tag;
 use crate::records::zero_capability;
 use crate::records::zero_configuration;
 use crate::rssi;
+use crate::technology::SET_LIMIT;
 use crate::uwb;
 ghost use mathlib.Core.Path.{_≡_};
 ghost use Prim.Native.Nat.{_+_, _≤_};
@@ -70,7 +71,7 @@ fn record_at(m: &[u8], found: &[u16; 5]) -> Record
     ensures { λ r. ⌜ r ≡ recordAt (now (m .entry)) (now (found .entry)) ⌝ }
 {
     let id = m[1];
-    let set = u16_at(m, 2) % 16;
+    let set = u16_at(m, 2) % SET_LIMIT;
     if id == CAPABILITY_RESPONSE {
         let capability = capability_at(m, found);
         let configuration = zero_configuration();
@@ -119,7 +120,7 @@ fn for_tag_at(m: &[u8], found: &[u16; 5]) -> TagReading
     ensures { λ r. ⌜ r ≡ forTag (accepted (recordAt (now (m .entry)) (now (found .entry)))) ⌝ }
 {
     let id = m[1];
-    let named = u16_at(m, 2) % 16;
+    let named = u16_at(m, 2) % SET_LIMIT;
     if id == CONFIGURATION {
         let settings = configuration_at(m, found);
         return TagReading {

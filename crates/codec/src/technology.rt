@@ -14,6 +14,14 @@ pub const NAN: u8 = 2;
 
 pub const RSSI: u8 = 3;
 
+// IDs from here on are reserved, and a set without reserved bits is below the limit.
+pub const RESERVED: u8 = 4;
+
+pub const SET_LIMIT: u16 = 16;
+
+// The set of all of them.
+pub const ALL: u16 = 15;
+
 // Whether a set has the bit of an ID.
 pub fn has(set: u16, id: u8) -> bool
     ensures { λ r. ⌜ r ≡ bit set id ⌝ }

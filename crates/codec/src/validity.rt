@@ -7,6 +7,7 @@ use crate::rssi;
 use crate::technology::CS;
 use crate::technology::NAN;
 use crate::technology::RSSI;
+use crate::technology::SET_LIMIT;
 use crate::technology::UWB;
 use crate::technology::has;
 use crate::uwb;
@@ -51,7 +52,7 @@ pub(crate) fn valid_configuration(set: u16, c: Configuration) -> bool
 pub fn valid_response(set: u16, c: Capability) -> bool
     ensures { λ r. ⌜ r ≡ valid (response set c) ⌝ }
 {
-    (set < 16) & valid_capability(set, c)
+    (set < SET_LIMIT) & valid_capability(set, c)
 }
 
 // Whether a Capability Response with those of these blocks that the set names is valid.
@@ -60,7 +61,7 @@ pub(crate) fn valid_only(set: u16, c: Capability) -> bool
 {
     let uwb = !has(set, UWB) | uwb::valid_capability(true, c.uwb);
     let nan = !has(set, NAN) | nan::valid_capability(true, c.nan);
-    (set < 16) & (uwb & nan)
+    (set < SET_LIMIT) & (uwb & nan)
 }
 
 // Whether the fields of the technologies that a set leaves out are zero.

@@ -4,6 +4,7 @@ use crate::blocks::least_size;
 use crate::refusal::BLOCK_TOO_SMALL;
 use crate::refusal::ENDS_EARLY;
 use crate::refusal::WRONG_BLOCK;
+use crate::technology::RESERVED;
 use crate::technology::has;
 use crate::technology::without;
 use crate::walker::next_place;
@@ -56,7 +57,7 @@ fn block_fault(m: &[u8], at: usize, awaited: u16) -> u8
     if !has(awaited, id) {
         return WRONG_BLOCK;
     }
-    if id < 4 {
+    if id < RESERVED {
         return fields_fault(m, at, id);
     }
     size_fault(m[at + 1], 2, m.len() - at)
@@ -67,7 +68,7 @@ fn note(id: u8, at: u16, found: &mut [u16; 5])
     requires { ⌜ length (now found) ≡ 5 ⌝ }
     ensures { λ r. ⌜ (now (found .exit) ≡ note id at (now (found .entry))) × (length (now (found .exit)) ≡ 5) ⌝ }
 {
-    if id < 4 {
+    if id < RESERVED {
         found[id as usize] = at;
         return;
     }

@@ -17,6 +17,7 @@ use crate::rssi;
 use crate::technology::CS;
 use crate::technology::NAN;
 use crate::technology::RSSI;
+use crate::technology::SET_LIMIT;
 use crate::technology::UWB;
 use crate::technology::has;
 use crate::uwb;
@@ -128,7 +129,7 @@ pub fn write_capability_response(set: u16, c: Capability, out: &mut [u8]) -> Wri
 fn write_configuration(set: u16, c: Configuration, out: &mut [u8]) -> Written
     ensures { λ r. ⌜ Writes (settings set c) (now (out .entry)) r (now (out .exit)) ⌝ }
 {
-    if !((set < 16) & valid_configuration(set, c)) {
+    if !((set < SET_LIMIT) & valid_configuration(set, c)) {
         return refused(NOT_VALID);
     }
     let length = 6 + size_configuration(set, c);
@@ -146,7 +147,7 @@ fn write_without_blocks(id: u8, set: u16, out: &mut [u8]) -> Written
     requires { ⌜ (assigned id ≡ true) × (id ≡ 1 → ⊥) × (id ≡ 2 → ⊥) ⌝ }
     ensures { λ r. ⌜ Writes (withoutBlocks id set) (now (out .entry)) r (now (out .exit)) ⌝ }
 {
-    if set >= 16 {
+    if set >= SET_LIMIT {
         return refused(NOT_VALID);
     }
     if out.len() < 4 {

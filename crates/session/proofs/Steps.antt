@@ -30,7 +30,7 @@ use Rattle.codec.specs.Technology.{technologies, setLimit, Technology, technolo
 use Rattle.session.specs.Within.{bars}
 use Rattle.session.specs.Rules.{validProfile, message, advertisement, Call, Kind, request, configuration, stop, kindOf, octetsOf, replied, shows, capabilityReply, Served, conclude, giveOut, configure, setBy, endedBy, halt, serve, respond, call, after, answerTo}
 use Rattle.session.specs.Session.{yes, partIn, markIn, withParts, withMarks, onSession, sessionCall, Gives, asProfile, profileOf}
-use Rattle.session.specs.Replies.{Delivers, settle, Answers}
+use Rattle.session.specs.Inner.Replies.{Delivers, settle, Answers}
 use Rattle.codec.proofs.SetLaws.{naming-below, names-naming}
 
 -- the same session afterwards

@@ -5,4 +5,4 @@ pub mod History
 pub mod Session
 pub mod Trace
 pub mod Demand3
-pub mod Replies
+pub mod Inner

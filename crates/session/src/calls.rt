@@ -17,8 +17,16 @@ use codec::TagReading;
 use codec::Written;
 use codec::common;
 use codec::has;
+use codec::message::CAPABILITY_REQUEST;
+use codec::message::CAPABILITY_RESPONSE;
+use codec::message::CONFIGURATION;
+use codec::message::STOP;
 use codec::refusal::NOT_FOR_TAG;
 use codec::refusal::NOT_VALID;
+use codec::technology::ALL;
+use codec::technology::NAN;
+use codec::technology::RSSI;
+use codec::technology::UWB;
 ghost use mathlib.Core.Path.{_≡_};
 ghost use mathlib.Core.Bool.{cond, _&&_};
 ghost use lib.Dec.{eqb};
@@ -33,7 +41,8 @@ ghost use Rattle.session.specs.Session.{Does, profileOf, started};
 pub fn start(profile: Record, replies: u8) -> Started
     ensures { λ r. ⌜ r ≡ started (profileOf profile replies) ⌝ }
 {
-    let response = (profile.id == 1) & codec::valid_response(profile.set, profile.capability);
+    let response = (profile.id == CAPABILITY_RESPONSE)
+        & codec::valid_response(profile.set, profile.capability);
     if !(response & codec::is_zero_configuration(profile.configuration) & (replies < 3)) {
         return Started {
             session: fresh(Profile {
@@ -59,7 +68,7 @@ pub fn start(profile: Record, replies: u8) -> Started
 fn mark_given(blocks: u16, w: Written, mark: u8) -> u8
     ensures { λ r. ⌜ r ≡ cond (bit blocks 0 && eqb (w .refusal) 0) 0 mark ⌝ }
 {
-    if has(blocks, 0) & (w.refusal == 0) {
+    if has(blocks, UWB) & (w.refusal == 0) {
         0
     } else {
         mark
@@ -89,34 +98,34 @@ pub fn message(s: Session, octets: &[u8], out: &mut [u8]) -> Step
     let mut answer = refusal(heard.refusal);
     if heard.refusal == 0 {
         answer = match id {
-            0 => {
+            CAPABILITY_REQUEST => {
                 let blocks = common(heard.set, session.profile.set);
                 let w = codec::write_capability_response(blocks, session.profile.capability, out);
                 session.mark = mark_given(blocks, w, session.mark);
                 answered(w, 0, 0)
             }
-            2 => configure(session, heard.set, settings, out),
-            6 => halt(session, heard.set, out),
+            CONFIGURATION => configure(session, heard.set, settings, out),
+            STOP => halt(session, heard.set, out),
             _ => refusal(NOT_FOR_TAG),
         };
     }
-    if has(answer.set, 0) {
+    if has(answer.set, UWB) {
         session.uwb = uwb_state(1, settings.uwb);
     }
-    if has(answer.set, 2) {
+    if has(answer.set, NAN) {
         session.nan = nan_state(1, settings.nan);
     }
-    if has(answer.set, 3) {
+    if has(answer.set, RSSI) {
         session.rssi = rssi_state(1, settings.rssi);
     }
-    if has(answer.stopped, 0) {
+    if has(answer.stopped, UWB) {
         session.uwb = uwb_state(0, settings.uwb);
         session.mark = 1;
     }
-    if has(answer.stopped, 2) {
+    if has(answer.stopped, NAN) {
         session.nan = nan_state(0, settings.nan);
     }
-    if has(answer.stopped, 3) {
+    if has(answer.stopped, RSSI) {
         session.rssi = rssi_state(0, settings.rssi);
     }
     Step { session, answer }
@@ -129,7 +138,7 @@ pub fn advertise(s: Session, out: &mut [u8]) -> Step
     let mut session = s;
     let mut answer = refusal(NOT_VALID);
     if valid_profile(session.profile) {
-        let blocks = common(15, session.profile.set);
+        let blocks = common(ALL, session.profile.set);
         let w = codec::write_capability_response(blocks, session.profile.capability, out);
         session.mark = mark_given(blocks, w, session.mark);
         answer = answered(w, 0, 0);

@@ -7,7 +7,7 @@ use codec::set_if;
 ghost use mathlib.Core.Path.{_≡_};
 ghost use Prim.Native.Nat.{_<_};
 ghost use Rattle.session.specs.Rules.{validProfile, explicitReply};
-ghost use Rattle.session.specs.Replies.{Delivers, settle};
+ghost use Rattle.session.specs.Inner.Replies.{Delivers, settle};
 
 pub(crate) fn valid_profile(p: Profile) -> bool
     ensures { λ r. ⌜ r ≡ validProfile p ⌝ }

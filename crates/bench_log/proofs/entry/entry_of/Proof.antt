@@ -9,9 +9,6 @@ use borrow.Author.Needs.{needs}
 use Rattle.bench_log.proofs.entry.entry_of.Statement.{statement}
 use Rattle.bench_log.proofs.entry.entry_of.Tie as tie
 
-keeps-layout-requires : tie.Need-keeps-layout-requires
-keeps-layout-requires c κs = search needs
-
 returns : tie.Need-returns
 returns c = entry-broken _ (sym (c .before .keeps-layout .ensures) ∙ not-true _ (c .if1 .taken))
 
@@ -27,23 +24,11 @@ shared-slice-read-joined c = omega (arith, here (c .before) .size)
 shared-slice-read-joined-2 : tie.Need-shared-slice-read-joined-2
 shared-slice-read-joined-2 c = omega (arith, here (c .before .before) .size)
 
-joined-requires : tie.Need-joined-requires
-joined-requires c κs = search needs
-
 add-end : tie.Need-add-end
 add-end c = omega (arith, c .joined .ensures, here (c .before .before .before) .fits)
 
-sub-read : tie.Need-sub-read
-sub-read c = search needs
-
-part-read-start : tie.Need-part-read-start
-part-read-start c = search needs
-
 part-read-end : tie.Need-part-read-end
 part-read-end c = omega (arith, c .joined .ensures, here (c .before .before .before) .fits, here (c .before .before .before) .size)
-
-read-requires : tie.Need-read-requires
-read-requires c κs = search needs
 
 shared-slice-read-t10 : tie.Need-shared-slice-read-t10
 shared-slice-read-t10 c = omega (arith, here (c .before .before .before .before .before .before) .size)
@@ -58,15 +43,15 @@ pub entry-of-spec : {M : Type 1} → statement M
 entry-of-spec =
     tie.close
     (tie.spec
-    keeps-layout-requires
+    (search needs)
     returns
     shared-slice-read-joined
     shared-slice-read-joined-2
-    joined-requires
+    (search needs)
     add-end
-    sub-read
-    part-read-start
+    (search needs)
+    (search needs)
     part-read-end
-    read-requires
+    (search needs)
     shared-slice-read-t10
     returns-2)

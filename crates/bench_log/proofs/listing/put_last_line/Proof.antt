@@ -6,35 +6,20 @@ use borrow.Author.Needs.{needs}
 use Rattle.bench_log.proofs.listing.put_last_line.Statement.{statement}
 use Rattle.bench_log.proofs.listing.put_last_line.Tie as tie
 
-slice-aggregate-put-field : tie.Need-slice-aggregate-put-field
-slice-aggregate-put-field c = search needs
-
 put-field-requires : tie.Need-put-field-requires
 put-field-requires c κs = let a = c .before .before .before .args in omega (arith, last-line-length (a .totals) (a .tail))
-
-slice-aggregate-put-field-2 : tie.Need-slice-aggregate-put-field-2
-slice-aggregate-put-field-2 c = search needs
 
 put-field-requires-2 : tie.Need-put-field-requires-2
 put-field-requires-2 c κs = let a = c .before .before .before .before .before .before .before .before .args in omega (arith, last-line-length (a .totals) (a .tail))
 
-slice-aggregate-put-field-3 : tie.Need-slice-aggregate-put-field-3
-slice-aggregate-put-field-3 c = search needs
-
 put-field-requires-3 : tie.Need-put-field-requires-3
 put-field-requires-3 c κs = let a = c .before .before .before .before .before .before .before .before .before .before .before .before .before .args in omega (arith, last-line-length (a .totals) (a .tail))
-
-slice-aggregate-put-field-4 : tie.Need-slice-aggregate-put-field-4
-slice-aggregate-put-field-4 c = search needs
 
 put-field-requires-4 : tie.Need-put-field-requires-4
 put-field-requires-4 c κs = let a = c .before .before .before .before .before .before .before .before .before .before .before .before .before .before .before .before .before .before .args in omega (arith, last-line-length (a .totals) (a .tail))
 
 put-requires : tie.Need-put-requires
 put-requires c κs = let a = c .before .before .before .before .before .before .before .before .before .before .before .before .before .before .before .before .before .before .before .before .before .before .args in omega (arith, last-line-length (a .totals) (a .tail))
-
-same-length : tie.Need-same-length
-same-length c = search needs
 
 returns : tie.Need-returns
 unfolding lastLine
@@ -49,14 +34,14 @@ pub put-last-line-spec : {M : Type 1} → statement M
 put-last-line-spec =
     tie.close
     (tie.spec
-    slice-aggregate-put-field
+    (search needs)
     put-field-requires
-    slice-aggregate-put-field-2
+    (search needs)
     put-field-requires-2
-    slice-aggregate-put-field-3
+    (search needs)
     put-field-requires-3
-    slice-aggregate-put-field-4
+    (search needs)
     put-field-requires-4
     put-requires
-    same-length
+    (search needs)
     returns)

@@ -25,9 +25,6 @@ put-verdict-requires c κs = omega (arith, limit (c .before .before .before .bef
 put-requires : tie.Need-put-requires
 put-requires c κs = omega (arith, limit (c .before .before .before .before .before .before .before .before .before .before .before .before .before .before))
 
-same-length : tie.Need-same-length
-same-length c = search needs
-
 returns : tie.Need-returns
 unfolding line
 returns c = (
@@ -43,5 +40,5 @@ put-line-spec =
     put-letter-requires
     put-verdict-requires
     put-requires
-    same-length
+    (search needs)
     returns)

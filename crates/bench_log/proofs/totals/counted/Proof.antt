@@ -4,21 +4,9 @@ use borrow.Author.Needs.{needs}
 use Rattle.bench_log.proofs.totals.counted.Statement.{statement}
 use Rattle.bench_log.proofs.totals.counted.Tie as tie
 
-one-more-requires : tie.Need-one-more-requires
-one-more-requires c κs = search needs
-
-one-more-requires-2 : tie.Need-one-more-requires-2
-one-more-requires-2 c κs = search needs
-
 returns : tie.Need-returns
 unfolding counted
 returns c = rw (eq-eqb _ _ (c .before .before .if1 .taken), c .before .one-more .ensures, c .one-more2 .ensures)
-
-one-more-requires-3 : tie.Need-one-more-requires-3
-one-more-requires-3 c κs = search needs
-
-one-more-requires-4 : tie.Need-one-more-requires-4
-one-more-requires-4 c κs = search needs
 
 returns-2 : tie.Need-returns-2
 unfolding counted
@@ -28,9 +16,9 @@ pub counted-spec : {M : Type 1} → statement M
 counted-spec =
     tie.close
     (tie.spec
-    one-more-requires
-    one-more-requires-2
+    (search needs)
+    (search needs)
     returns
-    one-more-requires-3
-    one-more-requires-4
+    (search needs)
+    (search needs)
     returns-2)

@@ -12,26 +12,11 @@ use borrow.Author.Needs.{needs}
 use Rattle.codec.proofs.checks.configuration_fault.Statement.{statement}
 use Rattle.codec.proofs.checks.configuration_fault.Tie as tie
 
-shared-slice-read-readable : tie.Need-shared-slice-read-readable
-shared-slice-read-readable c = search needs
-
-shared-slice-read-readable-2 : tie.Need-shared-slice-read-readable-2
-shared-slice-read-readable-2 c = search needs
-
-readable-requires : tie.Need-readable-requires
-readable-requires c κs = search needs
-
 returns : tie.Need-returns
 returns c = judged-refused (body-unread _ (failed (c .before .readable .ensures) (c .if1 .taken))) (λ e. omega arith) (c .before .before .before .before .before .pre .3)
 
 returns-2 : tie.Need-returns-2
 returns-2 c = judged-refused (body-short _ (passed (c .before .before .readable .ensures) (c .before .if1 .left)) (row 2) (ap row (c .before .before .before .before .before .before .pre .2)) (c .if2 .taken)) (λ e. omega arith) (c .before .before .before .before .before .before .pre .3)
-
-u16-at-requires : tie.Need-u16-at-requires
-u16-at-requires c κs = search needs
-
-u16-at-requires-2 : tie.Need-u16-at-requires-2
-u16-at-requires-2 c κs = search needs
 
 returns-3 : tie.Need-returns-3
 returns-3 c =
@@ -39,9 +24,6 @@ returns-3 c =
     (body-sets _ (passed (c .before .before .before .before .before .readable .ensures) (c .before .before .before .before .if1 .left)) (row 2) (ap row (c .before .before .before .before .before .before .before .before .before .pre .2)) (c .before .before .before .if2 .left) (ne-eqb _ _ (λ e. c .if3 .taken (c .before .before .u16-at .ensures ∙ e ∙ sym (c .before .u16-at2 .ensures)))))
     (λ e. omega arith)
     (c .before .before .before .before .before .before .before .before .before .pre .3)
-
-blocks-fault-requires : tie.Need-blocks-fault-requires
-blocks-fault-requires c κs = search needs
 
 returns-4 : tie.Need-returns-4
 returns-4 c =
@@ -53,13 +35,13 @@ pub configuration-fault-spec : {M : Type 1} → statement M
 configuration-fault-spec =
     tie.close
     (tie.spec
-    shared-slice-read-readable
-    shared-slice-read-readable-2
-    readable-requires
+    (search needs)
+    (search needs)
+    (search needs)
     returns
     returns-2
-    u16-at-requires
-    u16-at-requires-2
+    (search needs)
+    (search needs)
     returns-3
-    blocks-fault-requires
+    (search needs)
     returns-4)

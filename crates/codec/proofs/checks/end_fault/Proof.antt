@@ -3,9 +3,6 @@ use borrow.Author.Needs.{needs}
 use Rattle.codec.proofs.checks.end_fault.Statement.{statement}
 use Rattle.codec.proofs.checks.end_fault.Tie as tie
 
-shared-slice-read-if1 : tie.Need-shared-slice-read-if1
-shared-slice-read-if1 c = search needs
-
 returns : tie.Need-returns
 returns c = end-left _ _ (c .if1 .taken)
 
@@ -13,4 +10,4 @@ returns-2 : tie.Need-returns-2
 returns-2 c = end-none _ _ (c .if1 .left)
 
 pub end-fault-spec : {M : Type 1} → statement M
-end-fault-spec = tie.close (tie.spec shared-slice-read-if1 returns returns-2)
+end-fault-spec = tie.close (tie.spec (search needs) returns returns-2)

@@ -28,15 +28,6 @@ returns c = judged-refused (parse-long _ (c .if1 .taken)) (λ e. omega arith) (c
 returns-2 : tie.Need-returns-2
 returns-2 c = judged-refused (parse-short _ (c .if2 .taken)) (λ e. omega arith) (c .before .before .before .pre)
 
-shared-slice-read-match : tie.Need-shared-slice-read-match
-shared-slice-read-match c = search needs
-
-response-fault-requires : tie.Need-response-fault-requires
-response-fault-requires c κs = search needs
-
-configuration-fault-requires : tie.Need-configuration-fault-requires
-configuration-fault-requires c κs = search needs
-
 set-fault-requires : tie.Need-set-fault-requires
 set-fault-requires c κs = (c .before .before .if2 .left, alone c .0)
 
@@ -72,9 +63,9 @@ message-fault-spec =
     (tie.spec
     returns
     returns-2
-    shared-slice-read-match
-    response-fault-requires
-    configuration-fault-requires
+    (search needs)
+    (search needs)
+    (search needs)
     set-fault-requires
     returns-3
     returns-4

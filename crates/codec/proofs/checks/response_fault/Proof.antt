@@ -11,23 +11,11 @@ use borrow.Author.Needs.{needs}
 use Rattle.codec.proofs.checks.response_fault.Statement.{statement}
 use Rattle.codec.proofs.checks.response_fault.Tie as tie
 
-shared-slice-read-readable : tie.Need-shared-slice-read-readable
-shared-slice-read-readable c = search needs
-
-shared-slice-read-readable-2 : tie.Need-shared-slice-read-readable-2
-shared-slice-read-readable-2 c = search needs
-
-readable-requires : tie.Need-readable-requires
-readable-requires c κs = search needs
-
 returns : tie.Need-returns
 returns c = judged-refused (body-unread _ (failed (c .before .readable .ensures) (c .if1 .taken))) (λ e. omega arith) (c .before .before .before .before .before .pre .3)
 
 returns-2 : tie.Need-returns-2
 returns-2 c = judged-refused (body-short _ (passed (c .before .before .readable .ensures) (c .before .if1 .left)) (row 1) (ap row (c .before .before .before .before .before .before .pre .2)) (c .if2 .taken)) (λ e. omega arith) (c .before .before .before .before .before .before .pre .3)
-
-blocks-fault-requires : tie.Need-blocks-fault-requires
-blocks-fault-requires c κs = search needs
 
 returns-3 : tie.Need-returns-3
 returns-3 c =
@@ -40,10 +28,10 @@ pub response-fault-spec : {M : Type 1} → statement M
 response-fault-spec =
     tie.close
     (tie.spec
-    shared-slice-read-readable
-    shared-slice-read-readable-2
-    readable-requires
+    (search needs)
+    (search needs)
+    (search needs)
     returns
     returns-2
-    blocks-fault-requires
+    (search needs)
     returns-3)

@@ -6,23 +6,11 @@ use borrow.Author.Needs.{needs}
 use Rattle.codec.proofs.checks.set_fault.Statement.{statement}
 use Rattle.codec.proofs.checks.set_fault.Tie as tie
 
-shared-slice-read-readable : tie.Need-shared-slice-read-readable
-shared-slice-read-readable c = search needs
-
-shared-slice-read-readable-2 : tie.Need-shared-slice-read-readable-2
-shared-slice-read-readable-2 c = search needs
-
-readable-requires : tie.Need-readable-requires
-readable-requires c κs = search needs
-
 returns : tie.Need-returns
 returns c = body-unread _ (failed (c .before .readable .ensures) (c .if1 .taken))
 
 returns-2 : tie.Need-returns-2
 returns-2 c = body-short _ (passed (c .before .before .readable .ensures) (c .before .if1 .left)) setAlone (c .before .before .before .before .before .before .pre .1) (c .if2 .taken)
-
-end-fault-requires : tie.Need-end-fault-requires
-end-fault-requires c κs = search needs
 
 returns-3 : tie.Need-returns-3
 returns-3 c = c .end-fault .ensures ∙ set-end _ (passed (c .before .before .before .readable .ensures) (c .before .before .if1 .left)) (c .before .before .before .before .before .before .before .pre .1) (c .before .if2 .left)
@@ -31,10 +19,10 @@ pub set-fault-spec : {M : Type 1} → statement M
 set-fault-spec =
     tie.close
     (tie.spec
-    shared-slice-read-readable
-    shared-slice-read-readable-2
-    readable-requires
+    (search needs)
+    (search needs)
+    (search needs)
     returns
     returns-2
-    end-fault-requires
+    (search needs)
     returns-3)

@@ -26,9 +26,6 @@ put-requires-3 c κs = omega (arith, room (c .before .before .before .before .be
 put-address-requires : tie.Need-put-address-requires
 put-address-requires c κs = omega (arith, room (c .before .before .before .before .before .before .before .before .before .before .before .before .before .before))
 
-same-length : tie.Need-same-length
-same-length c = search needs
-
 returns-2 : tie.Need-returns-2
 returns-2 c =
     put-block (c .before .before .before .before .before .before .before .before .before .before .before .before .before .before .before .before .before .before .before .args .present) csCapability 1 9 (c .before .before .before .before .before .before .before .before .before .before .before .before .before .before .before .before .before .before .before .args .security, (c .before .before .before .before .before .before .before .before .before .before .before .before .before .before .before .before .before .before .before .args .t3, tt)) (c .before .before .before .before .before .before .before .before .before .before .before .before .before .before .before .before .before .if1 .left) (omega (arith, length-append (c .before .before .before .before .before .before .before .before .before .before .before .before .before .before .before .before .before .before .before .args .t3) [], c .before .before .put-address .ensures .1))
@@ -43,5 +40,5 @@ put-block-spec =
     put-requires-2
     put-requires-3
     put-address-requires
-    same-length
+    (search needs)
     returns-2)

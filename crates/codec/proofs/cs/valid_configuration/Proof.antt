@@ -3,17 +3,11 @@ use borrow.Author.Needs.{needs}
 use Rattle.codec.proofs.cs.valid_configuration.Statement.{statement}
 use Rattle.codec.proofs.cs.valid_configuration.Tie as tie
 
-inside-requires : tie.Need-inside-requires
-inside-requires c κs = search needs
-
 returns : tie.Need-returns
 returns c = simp (c .before .if1 .taken, c .inside .ensures, and-true)
-
-all-zero-requires : tie.Need-all-zero-requires
-all-zero-requires c κs = search needs
 
 returns-2 : tie.Need-returns-2
 returns-2 c = simp (c .before .before .before .before .if1 .left, c .all-zero .ensures, and-true)
 
 pub valid-configuration-spec : {M : Type 1} → statement M
-valid-configuration-spec = tie.close (tie.spec inside-requires returns all-zero-requires returns-2)
+valid-configuration-spec = tie.close (tie.spec (search needs) returns (search needs) returns-2)

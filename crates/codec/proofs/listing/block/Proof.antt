@@ -19,12 +19,6 @@ four c = room _ _ (c .before .message-fault .ensures .number) (c .if1 .left)
 blocks : (c : tie.Else1) → let m = c .before .before .before .before .args .message .now in Passes m (blockCount (row (idOf m) .blocks) (setOf m)) (blocksAt (row (idOf m) .times))
 blocks c = passes-all _ _ (c .before .message-fault .ensures .number) (c .if1 .left)
 
-message-fault-requires : tie.Need-message-fault-requires
-message-fault-requires c κs = search needs
-
-no-block-requires : tie.Need-no-block-requires
-no-block-requires c κs = search needs
-
 returns : tie.Need-returns
 returns c = c .no-block .ensures ∙ lists-refused _ _ (c .before .before .message-fault .ensures .number) _ (c .before .if1 .taken)
 
@@ -43,9 +37,6 @@ u16-at-requires-2 c κs = omega (arith, four (c .before .before))
 nth-block-requires-2 : tie.Need-nth-block-requires-2
 nth-block-requires-2 c κs = rw (c .u16-at2 .ensures) (rw (c .before .match .keys2) at (blocks (c .before .before .before)))
 
-no-block-requires-2 : tie.Need-no-block-requires-2
-no-block-requires-2 c κs = search needs
-
 returns-2 : tie.Need-returns-2
 returns-2 c = lists-message _ _ (c .before .before .before .before .before .message-fault .ensures .number) (c .before .before .before .before .if1 .left) _ _ (rw (c .before .before .match .keys1, ← c .before .u16-at .ensures) (c .nth-block .ensures))
 
@@ -59,15 +50,15 @@ pub block-spec : {M : Type 1} → statement M
 block-spec =
     tie.close
     (tie.spec
-    message-fault-requires
-    no-block-requires
+    (search needs)
+    (search needs)
     returns
     shared-slice-read-match
     u16-at-requires
     nth-block-requires
     u16-at-requires-2
     nth-block-requires-2
-    no-block-requires-2
+    (search needs)
     returns-2
     returns-3
     returns-4)

@@ -3,12 +3,6 @@ use borrow.Author.Needs.{needs}
 use Rattle.codec.proofs.nan.capability_fault.Statement.{statement}
 use Rattle.codec.proofs.nan.capability_fault.Tie as tie
 
-shared-slice-read-inside : tie.Need-shared-slice-read-inside
-shared-slice-read-inside c = search needs
-
-inside-requires : tie.Need-inside-requires
-inside-requires c κs = search needs
-
 returns : tie.Need-returns
 returns c = rw (failed (c .before .inside .ensures) (c .if1 .taken))
 
@@ -17,4 +11,4 @@ returns-2 c = rw (passed (c .before .inside .ensures) (c .if1 .left))
 
 pub capability-fault-spec : {M : Type 1} → statement M
 capability-fault-spec =
-    tie.close (tie.spec shared-slice-read-inside inside-requires returns returns-2)
+    tie.close (tie.spec (search needs) (search needs) returns returns-2)

@@ -32,9 +32,6 @@ put-requires-5 c κs = omega (arith, room (c .before .before .before .before .be
 put-requires-6 : tie.Need-put-requires-6
 put-requires-6 c κs = omega (arith, room (c .before .before .before .before .before .before .before .before .before .before .before .before .before .before .before .before .before .before .before .before .before))
 
-same-length : tie.Need-same-length
-same-length c = search needs
-
 returns-2 : tie.Need-returns-2
 returns-2 c =
     put-block (c .before .before .before .before .before .before .before .before .before .before .before .before .before .before .before .before .before .before .before .before .before .before .before .before .before .before .args .present) nanCapability 2 6 (ofNanCapability (c .before .before .before .before .before .before .before .before .before .before .before .before .before .before .before .before .before .before .before .before .before .before .before .before .before .before .args .v)) (c .before .before .before .before .before .before .before .before .before .before .before .before .before .before .before .before .before .before .before .before .before .before .before .before .if1 .left) (omega arith)
@@ -51,5 +48,5 @@ put-capability-spec =
     put-requires-4
     put-requires-5
     put-requires-6
-    same-length
+    (search needs)
     returns-2)

@@ -14,14 +14,8 @@ room c = room-present (c .before .before .args .present) (5 + c .before .before 
 returns : tie.Need-returns
 returns c = put-absent (c .before .before .args .present) (c .before .before .args .out .now) (c .before .before .args .at) _ nanConfiguration 2 (ofNanConfiguration (c .before .before .args .t2)) (c .if1 .taken) (c .before .before .pre .0)
 
-cast-n : tie.Need-cast-n
-cast-n c = search needs
-
 put-requires : tie.Need-put-requires
 put-requires c κs = omega (arith, room (c .before))
-
-add-put : tie.Need-add-put
-add-put c = search needs
 
 put-requires-2 : tie.Need-put-requires-2
 put-requires-2 c κs = omega (arith, room (c .before .before .before .before .before))
@@ -38,9 +32,6 @@ put-requires-4 c κs = omega (arith, room (c .before .before .before .before .be
 put-requires-5 : tie.Need-put-requires-5
 put-requires-5 c κs = omega (arith, room (c .before .before .before .before .before .before .before .before .before .before .before .before .before .before .before .before .before .before .before .before .before .before .before))
 
-same-length : tie.Need-same-length
-same-length c = search needs
-
 returns-2 : tie.Need-returns-2
 returns-2 c =
     put-block (c .before .before .before .before .before .before .before .before .before .before .before .before .before .before .before .before .before .before .before .before .before .before .before .before .before .before .before .before .args .present) nanConfiguration 2 (5 + c .before .before .before .before .before .before .before .before .before .before .before .before .before .before .before .before .before .before .before .before .before .before .before .before .before .before .before .before .args .t2 .«name_length») (ofNanConfiguration (c .before .before .before .before .before .before .before .before .before .before .before .before .before .before .before .before .before .before .before .before .before .before .before .before .before .before .before .before .args .t2)) (c .before .before .before .before .before .before .before .before .before .before .before .before .before .before .before .before .before .before .before .before .before .before .before .before .before .before .if1 .left) (simp length-append (omega (arith, c .before .before .before .before .before .before .before .before .before .before .put-name .ensures .1)))
@@ -51,13 +42,13 @@ put-configuration-spec =
     tie.close
     (tie.spec
     returns
-    cast-n
+    (search needs)
     put-requires
-    add-put
+    (search needs)
     put-requires-2
     put-requires-3
     put-name-requires
     put-requires-4
     put-requires-5
-    same-length
+    (search needs)
     returns-2)

@@ -3,9 +3,6 @@ use borrow.Author.Needs.{needs}
 use Rattle.codec.proofs.nan.valid_capability.Statement.{statement}
 use Rattle.codec.proofs.nan.valid_capability.Tie as tie
 
-inside-requires : tie.Need-inside-requires
-inside-requires c κs = search needs
-
 returns : tie.Need-returns
 returns c = simp (c .before .if1 .taken, c .inside .ensures, and-true)
 
@@ -13,4 +10,4 @@ returns-2 : tie.Need-returns-2
 returns-2 c = simp (c .before .before .before .before .if1 .left, and-true)
 
 pub valid-capability-spec : {M : Type 1} → statement M
-valid-capability-spec = tie.close (tie.spec inside-requires returns returns-2)
+valid-capability-spec = tie.close (tie.spec (search needs) returns returns-2)

@@ -9,26 +9,11 @@ use borrow.Author.Needs.{needs}
 use Rattle.codec.proofs.nan.valid_configuration.Statement.{statement}
 use Rattle.codec.proofs.nan.valid_configuration.Tie as tie
 
-all-zero-requires : tie.Need-all-zero-requires
-all-zero-requires c κs = search needs
-
 returns : tie.Need-returns
 returns c = simp (not-true (c .before .before .before .before .before .args .present) (c .before .before .before .before .if1 .taken), c .all-zero .ensures, and-true)
 
-inside-requires : tie.Need-inside-requires
-inside-requires c κs = search needs
-
 returns-2 : tie.Need-returns-2
 returns-2 c = simp (not-false (c .before .before .before .args .present) (c .before .before .if1 .left), failed (c .before .inside .ensures) (c .if2 .taken))
-
-cast-n : tie.Need-cast-n
-cast-n c = search needs
-
-inside-requires-2 : tie.Need-inside-requires-2
-inside-requires-2 c κs = search needs
-
-inside-requires-3 : tie.Need-inside-requires-3
-inside-requires-3 c κs = search needs
 
 zero-from-requires : tie.Need-zero-from-requires
 zero-from-requires c κs = omega (arith, bounded-le (between 1 64) 64 _ refl (passed (c .before .before .before .before .before .before .inside .ensures) (c .before .before .before .before .before .if2 .left)))
@@ -40,12 +25,12 @@ pub valid-configuration-spec : {M : Type 1} → statement M
 valid-configuration-spec =
     tie.close
     (tie.spec
-    all-zero-requires
+    (search needs)
     returns
-    inside-requires
+    (search needs)
     returns-2
-    cast-n
-    inside-requires-2
-    inside-requires-3
+    (search needs)
+    (search needs)
+    (search needs)
     zero-from-requires
     returns-3)

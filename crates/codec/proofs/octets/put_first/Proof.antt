@@ -15,11 +15,5 @@ slice-aggregate-put-all c = sym (length-first (c .before .before .before .before
 put-all-requires : tie.Need-put-all-requires
 put-all-requires c κs = omega (arith, length-first (c .before .before .before .before))
 
-same-length : tie.Need-same-length
-same-length c = search needs
-
-returns : tie.Need-returns
-returns c = search needs
-
 pub put-first-spec : {M : Type 1} → statement M
-put-first-spec = tie.close (tie.spec slice-aggregate-put-all put-all-requires same-length returns)
+put-first-spec = tie.close (tie.spec slice-aggregate-put-all put-all-requires (search needs) (λ c. search needs))

@@ -4,14 +4,8 @@ use borrow.Author.Needs.{needs}
 use Rattle.codec.proofs.octets.put_key.Statement.{statement}
 use Rattle.codec.proofs.octets.put_key.Tie as tie
 
-put-first-requires : tie.Need-put-first-requires
-put-first-requires c κs = search needs
-
-same-length : tie.Need-same-length
-same-length c = search needs
-
 returns : tie.Need-returns
 returns c = (c .before .before .put-first .ensures, length-take-le (c .before .before .before .before .before .before .args .k) (c .before .before .before .before .before .before .args .key .now) (omega arith))
 
 pub put-key-spec : {M : Type 1} → statement M
-put-key-spec = tie.close (tie.spec put-first-requires same-length returns)
+put-key-spec = tie.close (tie.spec (search needs) (search needs) returns)

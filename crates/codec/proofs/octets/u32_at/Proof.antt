@@ -5,18 +5,6 @@ use borrow.Author.Needs.{needs}
 use Rattle.codec.proofs.octets.u32_at.Statement.{statement}
 use Rattle.codec.proofs.octets.u32_at.Tie as tie
 
-u16-at-requires : tie.Need-u16-at-requires
-u16-at-requires c κs = search needs
-
-add-u16-at : tie.Need-add-u16-at
-add-u16-at c = search needs
-
-u16-at-requires-2 : tie.Need-u16-at-requires-2
-u16-at-requires-2 c κs = search needs
-
-joined32-requires : tie.Need-joined32-requires
-joined32-requires c κs = search needs
-
 returns : tie.Need-returns
 returns c =
     let a = c .before .before .before .before .args in
@@ -26,4 +14,4 @@ returns c =
 
 pub u32-at-spec : {M : Type 1} → statement M
 u32-at-spec =
-    tie.close (tie.spec u16-at-requires add-u16-at u16-at-requires-2 joined32-requires returns)
+    tie.close (tie.spec (search needs) (search needs) (search needs) (search needs) returns)

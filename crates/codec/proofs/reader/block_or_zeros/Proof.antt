@@ -10,9 +10,6 @@ use Rattle.codec.proofs.reader.block_or_zeros.Tie as tie
 returns : tie.Need-returns
 returns c = c .before .pre .0 ∙ rw (eq-eqb _ 0 (c .if1 .taken))
 
-add-end : tie.Need-add-end
-add-end c = search needs
-
 shared-slice-read-end : tie.Need-shared-slice-read-end
 shared-slice-read-end c = omega (arith, c .before .before .pre .1 (c .before .if1 .left) .0)
 
@@ -21,12 +18,6 @@ cast-end c = omega (arith, c .shared-slice-known .given (c .before .before .args
 
 add-end-2 : tie.Need-add-end-2
 add-end-2 c = omega (arith, c .before .before .pre .1 (c .before .if1 .left) .1)
-
-sub-result : tie.Need-sub-result
-sub-result c = search needs
-
-part-result-start : tie.Need-part-result-start
-part-result-start c = search needs
 
 part-result-end : tie.Need-part-result-end
 part-result-end c = omega (arith, c .before .before .pre .1 (c .before .if1 .left) .1)
@@ -39,11 +30,11 @@ block-or-zeros-spec =
     tie.close
     (tie.spec
     returns
-    add-end
+    (search needs)
     shared-slice-read-end
     cast-end
     add-end-2
-    sub-result
-    part-result-start
+    (search needs)
+    (search needs)
     part-result-end
     returns-2)

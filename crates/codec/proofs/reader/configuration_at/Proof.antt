@@ -4,23 +4,11 @@ use borrow.Author.Needs.{needs}
 use Rattle.codec.proofs.reader.configuration_at.Statement.{statement}
 use Rattle.codec.proofs.reader.configuration_at.Tie as tie
 
-element-copy-out-block-or-zeros : tie.Need-element-copy-out-block-or-zeros
-element-copy-out-block-or-zeros c = search needs
-
-slice-aggregate-block-or-zeros : tie.Need-slice-aggregate-block-or-zeros
-slice-aggregate-block-or-zeros c = search needs
-
 block-or-zeros-requires : tie.Need-block-or-zeros-requires
 block-or-zeros-requires c κs = (refl, λ n. c .before .before .before .pre .whole nan n)
 
 configuration-requires : tie.Need-configuration-requires
 configuration-requires c κs = rw (c .block-or-zeros .ensures) (c .before .before .before .before .pre .roomy nan)
-
-element-copy-out-block-or-zeros-2 : tie.Need-element-copy-out-block-or-zeros-2
-element-copy-out-block-or-zeros-2 c = search needs
-
-slice-aggregate-block-or-zeros-2 : tie.Need-slice-aggregate-block-or-zeros-2
-slice-aggregate-block-or-zeros-2 c = search needs
 
 block-or-zeros-requires-2 : tie.Need-block-or-zeros-requires-2
 block-or-zeros-requires-2 c κs = (refl, λ n. c .before .before .before .before .before .before .before .pre .whole uwb n)
@@ -28,23 +16,11 @@ block-or-zeros-requires-2 c κs = (refl, λ n. c .before .before .before .before
 configuration-requires-2 : tie.Need-configuration-requires-2
 configuration-requires-2 c κs = rw (c .block-or-zeros2 .ensures) (c .before .before .before .before .before .before .before .before .pre .roomy uwb)
 
-element-copy-out-block-or-zeros-3 : tie.Need-element-copy-out-block-or-zeros-3
-element-copy-out-block-or-zeros-3 c = search needs
-
-slice-aggregate-block-or-zeros-3 : tie.Need-slice-aggregate-block-or-zeros-3
-slice-aggregate-block-or-zeros-3 c = search needs
-
 block-or-zeros-requires-3 : tie.Need-block-or-zeros-requires-3
 block-or-zeros-requires-3 c κs = (refl, λ n. c .before .before .before .before .before .before .before .before .before .before .before .pre .whole cs n)
 
 configuration-requires-3 : tie.Need-configuration-requires-3
 configuration-requires-3 c κs = rw (c .block-or-zeros3 .ensures) (c .before .before .before .before .before .before .before .before .before .before .before .before .pre .roomy cs)
-
-element-copy-out-block-or-zeros-4 : tie.Need-element-copy-out-block-or-zeros-4
-element-copy-out-block-or-zeros-4 c = search needs
-
-slice-aggregate-block-or-zeros-4 : tie.Need-slice-aggregate-block-or-zeros-4
-slice-aggregate-block-or-zeros-4 c = search needs
 
 block-or-zeros-requires-4 : tie.Need-block-or-zeros-requires-4
 block-or-zeros-requires-4 c κs = (refl, λ n. c .before .before .before .before .before .before .before .before .before .before .before .before .before .before .before .pre .whole rssi n)
@@ -59,20 +35,20 @@ pub configuration-at-spec : {M : Type 1} → statement M
 configuration-at-spec =
     tie.close
     (tie.spec
-    element-copy-out-block-or-zeros
-    slice-aggregate-block-or-zeros
+    (search needs)
+    (search needs)
     block-or-zeros-requires
     configuration-requires
-    element-copy-out-block-or-zeros-2
-    slice-aggregate-block-or-zeros-2
+    (search needs)
+    (search needs)
     block-or-zeros-requires-2
     configuration-requires-2
-    element-copy-out-block-or-zeros-3
-    slice-aggregate-block-or-zeros-3
+    (search needs)
+    (search needs)
     block-or-zeros-requires-3
     configuration-requires-3
-    element-copy-out-block-or-zeros-4
-    slice-aggregate-block-or-zeros-4
+    (search needs)
+    (search needs)
     block-or-zeros-requires-4
     block-requires
     returns)

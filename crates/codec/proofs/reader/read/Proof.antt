@@ -13,12 +13,6 @@ octets c i = omega (arith, c .shared-slice-known .given i)
 found : (c : tie.Else1) → Found (c .before .before .before .before .args .message .now) (c .before .message-fault .last .1 .0)
 found c = found-by (c .before .before .before .before .args .message .now) (c .before .message-fault .ensures) (c .if1 .left)
 
-message-fault-requires : tie.Need-message-fault-requires
-message-fault-requires c κs = search needs
-
-refused-requires : tie.Need-refused-requires
-refused-requires c κs = search needs
-
 returns : tie.Need-returns
 returns c = record { octets = octets (c .before .before .before .before); answers = c .refused .ensures ∙ reads-refused _ _ (c .before .before .message-fault .ensures .number) (c .before .if1 .taken) }
 
@@ -31,4 +25,4 @@ returns-2 c = record { octets = octets (c .before .before .before .before .befor
 pub read-spec : {M : Type 1} → statement M
 read-spec =
     tie.close
-    (tie.spec message-fault-requires refused-requires returns record-at-requires returns-2)
+    (tie.spec (search needs) (search needs) returns record-at-requires returns-2)

@@ -8,12 +8,6 @@ use Rattle.codec.proofs.reader.read_for_tag.Tie as tie
 found : (c : tie.Else1) → Found (c .before .before .before .before .args .message .now) (c .before .message-fault .last .1 .0)
 found c = found-by (c .before .before .before .before .args .message .now) (c .before .message-fault .ensures) (c .if1 .left)
 
-message-fault-requires : tie.Need-message-fault-requires
-message-fault-requires c κs = search needs
-
-refused-for-tag-requires : tie.Need-refused-for-tag-requires
-refused-for-tag-requires c κs = search needs
-
 returns : tie.Need-returns
 returns c = rw (c .refused-for-tag .ensures) (ap forTag (reads-refused _ _ (c .before .before .message-fault .ensures .number) (c .before .if1 .taken)))
 
@@ -27,8 +21,8 @@ pub read-for-tag-spec : {M : Type 1} → statement M
 read-for-tag-spec =
     tie.close
     (tie.spec
-    message-fault-requires
-    refused-for-tag-requires
+    (search needs)
+    (search needs)
     returns
     for-tag-at-requires
     returns-2)

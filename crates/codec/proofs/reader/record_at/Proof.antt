@@ -4,32 +4,17 @@ use borrow.Author.Needs.{needs}
 use Rattle.codec.proofs.reader.record_at.Statement.{statement}
 use Rattle.codec.proofs.reader.record_at.Tie as tie
 
-shared-slice-read-id : tie.Need-shared-slice-read-id
-shared-slice-read-id c = search needs
-
-u16-at-requires : tie.Need-u16-at-requires
-u16-at-requires c κs = search needs
-
 capability-at-requires : tie.Need-capability-at-requires
 capability-at-requires c κs = c .before .before .before .before .pre .1 capabilities (c .if1 .taken)
 
-zero-configuration-requires : tie.Need-zero-configuration-requires
-zero-configuration-requires c κs = search needs
-
 returns : tie.Need-returns
 returns c = rw (c .before .capability-at .ensures, c .zero-configuration .ensures, c .before .before .before .u16-at .ensures, c .before .before .if1 .taken)
-
-zero-capability-requires : tie.Need-zero-capability-requires
-zero-capability-requires c κs = search needs
 
 configuration-at-requires : tie.Need-configuration-at-requires
 configuration-at-requires c κs = c .before .before .before .before .before .before .pre .1 configurations (c .if2 .taken)
 
 returns-2 : tie.Need-returns-2
 returns-2 c = rw (c .configuration-at .ensures, c .before .before .zero-capability .ensures, c .before .before .before .before .u16-at .ensures, c .before .if2 .taken)
-
-zero-configuration-requires-2 : tie.Need-zero-configuration-requires-2
-zero-configuration-requires-2 c κs = search needs
 
 returns-3 : tie.Need-returns-3
 returns-3 c = rw (c .zero-configuration2 .ensures, c .before .before .zero-capability .ensures, c .before .before .before .before .u16-at .ensures, ne-eqb _ 1 (c .before .before .before .if1 .left), ne-eqb _ 2 (c .before .if2 .left))
@@ -38,13 +23,13 @@ pub record-at-spec : {M : Type 1} → statement M
 record-at-spec =
     tie.close
     (tie.spec
-    shared-slice-read-id
-    u16-at-requires
+    (search needs)
+    (search needs)
     capability-at-requires
-    zero-configuration-requires
+    (search needs)
     returns
-    zero-capability-requires
+    (search needs)
     configuration-at-requires
     returns-2
-    zero-configuration-requires-2
+    (search needs)
     returns-3)

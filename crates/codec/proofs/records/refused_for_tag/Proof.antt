@@ -2,11 +2,8 @@ use borrow.Author.Needs.{needs}
 use Rattle.codec.proofs.records.refused_for_tag.Statement.{statement}
 use Rattle.codec.proofs.records.refused_for_tag.Tie as tie
 
-zero-configuration-requires : tie.Need-zero-configuration-requires
-zero-configuration-requires c κs = search needs
-
 returns : tie.Need-returns
 returns c = rw (c .zero-configuration .ensures)
 
 pub refused-for-tag-spec : {M : Type 1} → statement M
-refused-for-tag-spec = tie.close (tie.spec zero-configuration-requires returns)
+refused-for-tag-spec = tie.close (tie.spec (search needs) returns)

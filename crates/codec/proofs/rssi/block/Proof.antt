@@ -2,11 +2,8 @@ use borrow.Author.Needs.{needs}
 use Rattle.codec.proofs.rssi.block.Statement.{statement}
 use Rattle.codec.proofs.rssi.block.Tie as tie
 
-address-at-requires : tie.Need-address-at-requires
-address-at-requires c κs = search needs
-
 returns : tie.Need-returns
 returns c = cc
 
 pub block-spec : {M : Type 1} → statement M
-block-spec = tie.close (tie.spec address-at-requires returns)
+block-spec = tie.close (tie.spec (search needs) returns)

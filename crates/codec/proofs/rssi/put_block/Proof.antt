@@ -24,9 +24,6 @@ put-requires-2 c κs = omega (arith, room (c .before .before .before .before .be
 put-address-requires : tie.Need-put-address-requires
 put-address-requires c κs = omega (arith, room (c .before .before .before .before .before .before .before .before .before .before .before))
 
-same-length : tie.Need-same-length
-same-length c = search needs
-
 returns-2 : tie.Need-returns-2
 returns-2 c =
     put-block (c .before .before .before .before .before .before .before .before .before .before .before .before .before .before .before .before .args .present) rssiBlock 3 8 (ofRssi (c .before .before .before .before .before .before .before .before .before .before .before .before .before .before .before .before .args .t2)) (c .before .before .before .before .before .before .before .before .before .before .before .before .before .before .if1 .left) (omega (arith, length-append (c .before .before .before .before .before .before .before .before .before .before .before .before .before .before .before .before .args .t2 .address) [], c .before .before .put-address .ensures .1))
@@ -35,4 +32,4 @@ returns-2 c =
 pub put-block-spec : {M : Type 1} → statement M
 put-block-spec =
     tie.close
-    (tie.spec returns put-requires put-requires-2 put-address-requires same-length returns-2)
+    (tie.spec returns put-requires put-requires-2 put-address-requires (search needs) returns-2)

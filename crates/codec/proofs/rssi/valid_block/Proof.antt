@@ -3,14 +3,8 @@ use borrow.Author.Needs.{needs}
 use Rattle.codec.proofs.rssi.valid_block.Statement.{statement}
 use Rattle.codec.proofs.rssi.valid_block.Tie as tie
 
-returns : tie.Need-returns
-returns c = search needs
-
-all-zero-requires : tie.Need-all-zero-requires
-all-zero-requires c κs = search needs
-
 returns-2 : tie.Need-returns-2
 returns-2 c = simp (c .before .before .before .before .if1 .left, c .all-zero .ensures, and-true)
 
 pub valid-block-spec : {M : Type 1} → statement M
-valid-block-spec = tie.close (tie.spec returns all-zero-requires returns-2)
+valid-block-spec = tie.close (tie.spec (λ c. search needs) (search needs) returns-2)

@@ -5,35 +5,11 @@ use borrow.Author.Needs.{needs}
 use Rattle.codec.proofs.uwb.after_key_fault.Statement.{statement}
 use Rattle.codec.proofs.uwb.after_key_fault.Tie as tie
 
-add-role : tie.Need-add-role
-add-role c = search needs
-
-add-mode : tie.Need-add-mode
-add-mode c = search needs
-
-pair-at-requires : tie.Need-pair-at-requires
-pair-at-requires c κs = search needs
-
-letters-requires : tie.Need-letters-requires
-letters-requires c κs = search needs
-
 returns : tie.Need-returns
 returns c = rw (failed (c .before .letters .ensures ∙ ap alphabetic (c .before .before .pair-at .ensures)) (c .if1 .taken))
 
-shared-slice-read-inside : tie.Need-shared-slice-read-inside
-shared-slice-read-inside c = search needs
-
-inside-requires : tie.Need-inside-requires
-inside-requires c κs = search needs
-
 returns-2 : tie.Need-returns-2
 returns-2 c = rw (passed (c .before .before .before .before .letters .ensures ∙ ap alphabetic (c .before .before .before .before .before .pair-at .ensures)) (c .before .before .before .if1 .left), failed (c .before .inside .ensures) (c .if2 .taken))
-
-shared-slice-read-inside-2 : tie.Need-shared-slice-read-inside-2
-shared-slice-read-inside-2 c = search needs
-
-inside-requires-2 : tie.Need-inside-requires-2
-inside-requires-2 c κs = search needs
 
 returns-3 : tie.Need-returns-3
 returns-3 c = rw (passed (c .before .before .before .before .before .before .before .letters .ensures ∙ ap alphabetic (c .before .before .before .before .before .before .before .before .pair-at .ensures)) (c .before .before .before .before .before .before .if1 .left), passed (c .before .before .before .before .inside .ensures) (c .before .before .before .if2 .left), failed (c .before .inside2 .ensures) (c .if3 .taken))
@@ -45,15 +21,15 @@ pub after-key-fault-spec : {M : Type 1} → statement M
 after-key-fault-spec =
     tie.close
     (tie.spec
-    add-role
-    add-mode
-    pair-at-requires
-    letters-requires
+    (search needs)
+    (search needs)
+    (search needs)
+    (search needs)
     returns
-    shared-slice-read-inside
-    inside-requires
+    (search needs)
+    (search needs)
     returns-2
-    shared-slice-read-inside-2
-    inside-requires-2
+    (search needs)
+    (search needs)
     returns-3
     returns-4)

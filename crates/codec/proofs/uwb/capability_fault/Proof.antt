@@ -6,20 +6,8 @@ use borrow.Author.Needs.{needs}
 use Rattle.codec.proofs.uwb.capability_fault.Statement.{statement}
 use Rattle.codec.proofs.uwb.capability_fault.Tie as tie
 
-u16-at-requires : tie.Need-u16-at-requires
-u16-at-requires c κs = search needs
-
-allowed-interval-requires : tie.Need-allowed-interval-requires
-allowed-interval-requires c κs = search needs
-
 returns : tie.Need-returns
 returns c = rw (failed (c .before .allowed-interval .ensures ∙ ap (test interval) (c .before .before .u16-at .ensures)) (c .if1 .taken))
-
-shared-slice-read-inside : tie.Need-shared-slice-read-inside
-shared-slice-read-inside c = search needs
-
-inside-requires : tie.Need-inside-requires
-inside-requires c κs = search needs
 
 returns-2 : tie.Need-returns-2
 returns-2 c = rw (passed (c .before .before .before .before .allowed-interval .ensures ∙ ap (test interval) (c .before .before .before .before .before .u16-at .ensures)) (c .before .before .before .if1 .left), failed (c .before .inside .ensures) (c .if2 .taken))
@@ -31,10 +19,10 @@ pub capability-fault-spec : {M : Type 1} → statement M
 capability-fault-spec =
     tie.close
     (tie.spec
-    u16-at-requires
-    allowed-interval-requires
+    (search needs)
+    (search needs)
     returns
-    shared-slice-read-inside
-    inside-requires
+    (search needs)
+    (search needs)
     returns-2
     returns-3)

@@ -10,35 +10,14 @@ use borrow.Author.Needs.{needs}
 use Rattle.codec.proofs.uwb.configuration_fault.Statement.{statement}
 use Rattle.codec.proofs.uwb.configuration_fault.Tie as tie
 
-u16-at-requires : tie.Need-u16-at-requires
-u16-at-requires c κs = search needs
-
-allowed-interval-requires : tie.Need-allowed-interval-requires
-allowed-interval-requires c κs = search needs
-
 returns : tie.Need-returns
 returns c = rw (failed (c .before .allowed-interval .ensures ∙ ap (test interval) (c .before .before .u16-at .ensures)) (c .if1 .taken))
-
-shared-slice-read-inside : tie.Need-shared-slice-read-inside
-shared-slice-read-inside c = search needs
-
-inside-requires : tie.Need-inside-requires
-inside-requires c κs = search needs
 
 returns-2 : tie.Need-returns-2
 returns-2 c = rw (passed (c .before .before .before .before .allowed-interval .ensures ∙ ap (test interval) (c .before .before .before .before .before .u16-at .ensures)) (c .before .before .before .if1 .left), failed (c .before .inside .ensures) (c .if2 .taken))
 
-shared-slice-read-allowed-key-length : tie.Need-shared-slice-read-allowed-key-length
-shared-slice-read-allowed-key-length c = search needs
-
-allowed-key-length-requires : tie.Need-allowed-key-length-requires
-allowed-key-length-requires c κs = search needs
-
 returns-3 : tie.Need-returns-3
 returns-3 c = rw (passed (c .before .before .before .before .before .before .before .allowed-interval .ensures ∙ ap (test interval) (c .before .before .before .before .before .before .before .before .u16-at .ensures)) (c .before .before .before .before .before .before .if1 .left), passed (c .before .before .before .before .inside .ensures) (c .before .before .before .if2 .left), failed (c .before .allowed-key-length .ensures) (c .if3 .taken))
-
-shared-slice-read-country : tie.Need-shared-slice-read-country
-shared-slice-read-country c = search needs
 
 cast-country : tie.Need-cast-country
 cast-country c = omega (arith, c .shared-slice-known4 .given 14)
@@ -55,9 +34,6 @@ returns-4 c =
     let short : length b < 15 + getD b 14 0 + 2 + 1 + 1 = omega arith in
     rw (passed (c .before .before .before .before .before .before .before .before .before .allowed-interval .ensures ∙ ap (test interval) (c .before .before .before .before .before .before .before .before .before .before .u16-at .ensures)) (c .before .before .before .before .before .before .before .before .if1 .left), passed (c .before .before .before .before .before .before .inside .ensures) (c .before .before .before .before .before .if2 .left), passed (c .before .before .before .allowed-key-length .ensures) (c .before .before .if3 .left), lt-leb _ _ short)
 
-after-key-fault-requires : tie.Need-after-key-fault-requires
-after-key-fault-requires c κs = search needs
-
 returns-5 : tie.Need-returns-5
 returns-5 c =
     let b = c .before .before .before .before .before .before .before .before .before .before .before .before .before .args .b .now in
@@ -69,19 +45,19 @@ pub configuration-fault-spec : {M : Type 1} → statement M
 configuration-fault-spec =
     tie.close
     (tie.spec
-    u16-at-requires
-    allowed-interval-requires
+    (search needs)
+    (search needs)
     returns
-    shared-slice-read-inside
-    inside-requires
+    (search needs)
+    (search needs)
     returns-2
-    shared-slice-read-allowed-key-length
-    allowed-key-length-requires
+    (search needs)
+    (search needs)
     returns-3
-    shared-slice-read-country
+    (search needs)
     cast-country
     add-country
     add-if4
     returns-4
-    after-key-fault-requires
+    (search needs)
     returns-5)

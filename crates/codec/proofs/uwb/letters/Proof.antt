@@ -7,18 +7,6 @@ use borrow.Author.Needs.{needs}
 use Rattle.codec.proofs.uwb.letters.Statement.{statement}
 use Rattle.codec.proofs.uwb.letters.Tie as tie
 
-array-read-inside : tie.Need-array-read-inside
-array-read-inside c = search needs
-
-inside-requires : tie.Need-inside-requires
-inside-requires c κs = search needs
-
-array-read-inside-2 : tie.Need-array-read-inside-2
-array-read-inside-2 c = search needs
-
-inside-requires-2 : tie.Need-inside-requires-2
-inside-requires-2 c κs = search needs
-
 returns : tie.Need-returns
 unfolding alphabetic
 returns c = let a = c .before .before .args in
@@ -28,4 +16,4 @@ returns c = let a = c .before .before .args in
 pub letters-spec : {M : Type 1} → statement M
 letters-spec =
     tie.close
-    (tie.spec array-read-inside inside-requires array-read-inside-2 inside-requires-2 returns)
+    (tie.spec (search needs) (search needs) (search needs) (search needs) returns)

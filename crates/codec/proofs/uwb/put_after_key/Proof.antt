@@ -3,21 +3,9 @@ use borrow.Author.Needs.{needs}
 use Rattle.codec.proofs.uwb.put_after_key.Statement.{statement}
 use Rattle.codec.proofs.uwb.put_after_key.Tie as tie
 
-put-pair-requires : tie.Need-put-pair-requires
-put-pair-requires c κs = search needs
-
-put-requires : tie.Need-put-requires
-put-requires c κs = search needs
-
-put-requires-2 : tie.Need-put-requires-2
-put-requires-2 c κs = search needs
-
-same-length : tie.Need-same-length
-same-length c = search needs
-
 returns : tie.Need-returns
 returns c = (put-then (c .before .before .before .before .before .before .before .before .before .before .put-pair .ensures .0) (put-then (c .before .before .before .before .before .before .put .ensures) (put-last (c .before .before .put2 .ensures))), c .before .before .before .before .before .before .before .before .before .before .put-pair .ensures .1)
 
 pub put-after-key-spec : {M : Type 1} → statement M
 put-after-key-spec =
-    tie.close (tie.spec put-pair-requires put-requires put-requires-2 same-length returns)
+    tie.close (tie.spec (search needs) (search needs) (search needs) (search needs) returns)

@@ -35,9 +35,6 @@ put-requires-3 c κs = omega (arith, room (c .before .before .before .before .be
 put-requires-4 : tie.Need-put-requires-4
 put-requires-4 c κs = omega (arith, room (c .before .before .before .before .before .before .before .before .before .before .before .before .before .before .before .before .before .before .before .before .before .before .before .before .before .before .before))
 
-same-length : tie.Need-same-length
-same-length c = search needs
-
 returns-2 : tie.Need-returns-2
 returns-2 c =
     put-block (c .before .before .before .before .before .before .before .before .before .before .before .before .before .before .before .before .before .before .before .before .before .before .before .before .before .before .before .before .before .before .before .before .args .present) uwbCapability 0 20 (ofUwbCapability (c .before .before .before .before .before .before .before .before .before .before .before .before .before .before .before .before .before .before .before .before .before .before .before .before .before .before .before .before .before .before .before .before .args .t2)) (c .before .before .before .before .before .before .before .before .before .before .before .before .before .before .before .before .before .before .before .before .before .before .before .before .before .before .before .before .before .before .if1 .left) (simp length-append (omega (arith, c .before .before .before .before .before .before .before .before .before .before .before .before .before .before .before .before .before .before .put-pair .ensures .1)))
@@ -55,5 +52,5 @@ put-capability-spec =
     put-u16-requires
     put-requires-3
     put-requires-4
-    same-length
+    (search needs)
     returns-2)

@@ -14,14 +14,8 @@ room c = room-present (c .before .before .args .present) (19 + c .before .before
 returns : tie.Need-returns
 returns c = put-absent (c .before .before .args .present) (c .before .before .args .out .now) (c .before .before .args .at) _ uwbConfiguration 0 (ofUwbConfiguration (c .before .before .args .t2)) (c .if1 .taken) (c .before .before .pre .0)
 
-cast-k : tie.Need-cast-k
-cast-k c = search needs
-
 put-requires : tie.Need-put-requires
 put-requires c κs = omega (arith, room (c .before))
-
-add-put : tie.Need-add-put
-add-put c = search needs
 
 put-requires-2 : tie.Need-put-requires-2
 put-requires-2 c κs = omega (arith, room (c .before .before .before .before .before))
@@ -41,9 +35,6 @@ put-key-requires c κs = (c .before .before .before .before .before .before .bef
 put-after-key-requires : tie.Need-put-after-key-requires
 put-after-key-requires c κs = omega (arith, room (c .before .before .before .before .before .before .before .before .before .before .before .before .before .before .before .before .before .before .before .before .before .before .before .before .before .before .before .before .before))
 
-same-length : tie.Need-same-length
-same-length c = search needs
-
 returns-2 : tie.Need-returns-2
 returns-2 c =
     put-block (c .before .before .before .before .before .before .before .before .before .before .before .before .before .before .before .before .before .before .before .before .before .before .before .before .before .before .before .before .before .before .before .before .before .before .args .present) uwbConfiguration 0 (19 + c .before .before .before .before .before .before .before .before .before .before .before .before .before .before .before .before .before .before .before .before .before .before .before .before .before .before .before .before .before .before .before .before .before .before .args .t2 .«key_length») (ofUwbConfiguration (c .before .before .before .before .before .before .before .before .before .before .before .before .before .before .before .before .before .before .before .before .before .before .before .before .before .before .before .before .before .before .before .before .before .before .args .t2)) (c .before .before .before .before .before .before .before .before .before .before .before .before .before .before .before .before .before .before .before .before .before .before .before .before .before .before .before .before .before .before .before .before .if1 .left) (simp length-append (omega (arith, c .before .before .before .before .before .before .before .before .before .before .before .before .before .before .before .before .before .before .before .before .put-pair .ensures .1, c .before .before .before .before .before .before .put-key .ensures .1, c .before .before .put-after-key .ensures .1)))
@@ -54,14 +45,14 @@ put-configuration-spec =
     tie.close
     (tie.spec
     returns
-    cast-k
+    (search needs)
     put-requires
-    add-put
+    (search needs)
     put-requires-2
     put-pair-requires
     put-before-key-requires
     put-requires-3
     put-key-requires
     put-after-key-requires
-    same-length
+    (search needs)
     returns-2)

@@ -3,17 +3,8 @@ use borrow.Author.Needs.{needs}
 use Rattle.codec.proofs.uwb.valid_capability.Statement.{statement}
 use Rattle.codec.proofs.uwb.valid_capability.Tie as tie
 
-allowed-interval-requires : tie.Need-allowed-interval-requires
-allowed-interval-requires c κs = search needs
-
-inside-requires : tie.Need-inside-requires
-inside-requires c κs = search needs
-
 returns : tie.Need-returns
 returns c = simp (c .before .before .if1 .taken, c .inside .ensures, c .before .allowed-interval .ensures, and-true)
-
-is-zero-pair-requires : tie.Need-is-zero-pair-requires
-is-zero-pair-requires c κs = search needs
 
 returns-2 : tie.Need-returns-2
 returns-2 c = simp (c .before .before .before .if1 .left, c .is-zero-pair .ensures, and-true)
@@ -21,4 +12,4 @@ returns-2 c = simp (c .before .before .before .if1 .left, c .is-zero-pair .ensur
 pub valid-capability-spec : {M : Type 1} → statement M
 valid-capability-spec =
     tie.close
-    (tie.spec allowed-interval-requires inside-requires returns is-zero-pair-requires returns-2)
+    (tie.spec (search needs) (search needs) returns (search needs) returns-2)

@@ -10,38 +10,14 @@ use borrow.Author.Needs.{needs}
 use Rattle.codec.proofs.uwb.valid_configuration.Statement.{statement}
 use Rattle.codec.proofs.uwb.valid_configuration.Tie as tie
 
-is-zero-configuration-requires : tie.Need-is-zero-configuration-requires
-is-zero-configuration-requires c κs = search needs
-
 returns : tie.Need-returns
 returns c = c .is-zero-configuration .ensures ∙ simp (not-true (c .before .before .args .present) (c .before .if1 .taken))
-
-allowed-key-length-requires : tie.Need-allowed-key-length-requires
-allowed-key-length-requires c κs = search needs
 
 returns-2 : tie.Need-returns-2
 returns-2 c = simp (not-false (c .before .before .before .args .present) (c .before .before .if1 .left), failed (c .before .allowed-key-length .ensures) (c .if2 .taken), and-false)
 
-cast-k : tie.Need-cast-k
-cast-k c = search needs
-
-inside-requires : tie.Need-inside-requires
-inside-requires c κs = search needs
-
-inside-requires-2 : tie.Need-inside-requires-2
-inside-requires-2 c κs = search needs
-
 is-zero-key-from-requires : tie.Need-is-zero-key-from-requires
 is-zero-key-from-requires c κs = bounded-le (oneOf (8 ∷ 16 ∷ 32 ∷ [])) 32 _ refl (passed (c .before .before .before .before .before .before .allowed-key-length .ensures) (c .before .before .before .before .before .if2 .left))
-
-allowed-interval-requires : tie.Need-allowed-interval-requires
-allowed-interval-requires c κs = search needs
-
-inside-requires-3 : tie.Need-inside-requires-3
-inside-requires-3 c κs = search needs
-
-letters-requires : tie.Need-letters-requires
-letters-requires c κs = search needs
 
 returns-3 : tie.Need-returns-3
 returns-3 c = simp (not-false (c .before .before .before .before .before .before .before .before .before .before .before .before .args .present) (c .before .before .before .before .before .before .before .before .before .before .before .if1 .left), passed (c .before .before .before .before .before .before .before .before .before .before .allowed-key-length .ensures) (c .before .before .before .before .before .before .before .before .before .if2 .left), and-true, and-assoc) (cc)
@@ -50,15 +26,15 @@ pub valid-configuration-spec : {M : Type 1} → statement M
 valid-configuration-spec =
     tie.close
     (tie.spec
-    is-zero-configuration-requires
+    (search needs)
     returns
-    allowed-key-length-requires
+    (search needs)
     returns-2
-    cast-k
-    inside-requires
-    inside-requires-2
+    (search needs)
+    (search needs)
+    (search needs)
     is-zero-key-from-requires
-    allowed-interval-requires
-    inside-requires-3
-    letters-requires
+    (search needs)
+    (search needs)
+    (search needs)
     returns-3)

@@ -4,18 +4,6 @@ use borrow.Author.Needs.{needs}
 use Rattle.codec.proofs.validity.is_zero_configuration.Statement.{statement}
 use Rattle.codec.proofs.validity.is_zero_configuration.Tie as tie
 
-valid-configuration-requires : tie.Need-valid-configuration-requires
-valid-configuration-requires c κs = search needs
-
-valid-configuration-requires-2 : tie.Need-valid-configuration-requires-2
-valid-configuration-requires-2 c κs = search needs
-
-valid-configuration-requires-3 : tie.Need-valid-configuration-requires-3
-valid-configuration-requires-3 c κs = search needs
-
-valid-block-requires : tie.Need-valid-block-requires
-valid-block-requires c κs = search needs
-
 returns : tie.Need-returns
 unfolding validColumn
 returns c = simp (c .before .before .before .valid-configuration .ensures, c .before .before .valid-configuration2 .ensures, c .before .valid-configuration3 .ensures, c .valid-block .ensures, and-true)
@@ -24,8 +12,8 @@ pub is-zero-configuration-spec : {M : Type 1} → statement M
 is-zero-configuration-spec =
     tie.close
     (tie.spec
-    valid-configuration-requires
-    valid-configuration-requires-2
-    valid-configuration-requires-3
-    valid-block-requires
+    (search needs)
+    (search needs)
+    (search needs)
+    (search needs)
     returns)

@@ -17,18 +17,6 @@ used : (set : ℕ) (c : Capability)
     → (ltb set setLimit && ((not (names set uwb) || validFields uwbCapability true (ofUwbCapability (c .uwb))) && (not (names set nan) || validFields nanCapability true (ofNanCapability (c .nan))))) ≡ (ltb set setLimit && every technologies (usedFields set c))
 used set c = simp (and-true, or-true)
 
-has-requires : tie.Need-has-requires
-has-requires c κs = search needs
-
-valid-capability-requires : tie.Need-valid-capability-requires
-valid-capability-requires c κs = search needs
-
-has-requires-2 : tie.Need-has-requires-2
-has-requires-2 c κs = search needs
-
-valid-capability-requires-2 : tie.Need-valid-capability-requires-2
-valid-capability-requires-2 c κs = search needs
-
 returns : tie.Need-returns
 returns c = let a = c .before .before .before .before .args in rw (c .before .before .valid-capability .ensures, c .valid-capability2 .ensures, c .before .before .before .has .ensures, c .before .has2 .ensures) (used (a .set) (a .c) ∙ sym (only-valid (a .set) (a .c)))
 
@@ -36,8 +24,8 @@ pub valid-only-spec : {M : Type 1} → statement M
 valid-only-spec =
     tie.close
     (tie.spec
-    has-requires
-    valid-capability-requires
-    has-requires-2
-    valid-capability-requires-2
+    (search needs)
+    (search needs)
+    (search needs)
+    (search needs)
     returns)

@@ -22,38 +22,14 @@ two c = omega arith
 comes : (c : tie.Else2) → bit (c .before .before .before .before .before .args .awaited) (getD (c .before .before .before .before .before .args .m .now) (c .before .before .before .before .before .args .at) 0) ≡ true
 comes c = passed (c .before .has .ensures) (c .if2 .left)
 
-sub-if1 : tie.Need-sub-if1
-sub-if1 c = search needs
-
 returns : tie.Need-returns
 returns c = let l : length (c .before .before .args .m .now) < c .before .before .args .at + 2 = omega arith in rw (lt-leb _ _ l)
-
-shared-slice-read-id : tie.Need-shared-slice-read-id
-shared-slice-read-id c = search needs
-
-has-requires : tie.Need-has-requires
-has-requires c κs = search needs
 
 returns-2 : tie.Need-returns-2
 returns-2 c = rw (le-leb _ _ (two (c .before .before .before)), failed (c .before .has .ensures) (c .if2 .taken))
 
-fields-fault-requires : tie.Need-fields-fault-requires
-fields-fault-requires c κs = search needs
-
 returns-3 : tie.Need-returns-3
 returns-3 c = rw (le-leb _ _ (two (c .before .before .before .before .before)), comes (c .before .before)) (c .fields-fault .ensures)
-
-add-size-fault : tie.Need-add-size-fault
-add-size-fault c = search needs
-
-shared-slice-read-size-fault : tie.Need-shared-slice-read-size-fault
-shared-slice-read-size-fault c = search needs
-
-sub-size-fault : tie.Need-sub-size-fault
-sub-size-fault c = search needs
-
-size-fault-requires : tie.Need-size-fault-requires
-size-fault-requires c κs = search needs
 
 returns-4 : tie.Need-returns-4
 returns-4 c =
@@ -64,15 +40,15 @@ pub block-fault-spec : {M : Type 1} → statement M
 block-fault-spec =
     tie.close
     (tie.spec
-    sub-if1
+    (search needs)
     returns
-    shared-slice-read-id
-    has-requires
+    (search needs)
+    (search needs)
     returns-2
-    fields-fault-requires
+    (search needs)
     returns-3
-    add-size-fault
-    shared-slice-read-size-fault
-    sub-size-fault
-    size-fault-requires
+    (search needs)
+    (search needs)
+    (search needs)
+    (search needs)
     returns-4)

@@ -22,24 +22,6 @@ fitting c = fits-if _ _ _ (sized (c .before)) (c .if1 .left)
 whole : (c : tie.Else1) → let s = c .before .before .before .before .before .before .args in s .at + getD (s .m .now) (s .at + 1) 0 ≤ length (s .m .now)
 whole c = omega (arith, fitting c .whole, c .before .before .before .before .before .before .pre .1)
 
-add-size : tie.Need-add-size
-add-size c = search needs
-
-shared-slice-read-size : tie.Need-shared-slice-read-size
-shared-slice-read-size c = search needs
-
-shared-slice-read-least-size : tie.Need-shared-slice-read-least-size
-shared-slice-read-least-size c = search needs
-
-least-size-requires : tie.Need-least-size-requires
-least-size-requires c κs = search needs
-
-sub-size-fault : tie.Need-sub-size-fault
-sub-size-fault c = search needs
-
-size-fault-requires : tie.Need-size-fault-requires
-size-fault-requires c κs = search needs
-
 returns : tie.Need-returns
 returns c =
     let s = c .before .before .before .before .before .before .args in
@@ -50,15 +32,6 @@ cast-end c = omega (arith, whole c)
 
 add-end : tie.Need-add-end
 add-end c = omega (arith, whole c)
-
-shared-slice-read-field-fault : tie.Need-shared-slice-read-field-fault
-shared-slice-read-field-fault c = search needs
-
-sub-field-fault : tie.Need-sub-field-fault
-sub-field-fault c = search needs
-
-part-field-fault-start : tie.Need-part-field-fault-start
-part-field-fault-start c = search needs
 
 part-field-fault-end : tie.Need-part-field-fault-end
 part-field-fault-end c = omega (arith, whole (c .before))
@@ -73,18 +46,18 @@ pub fields-fault-spec : {M : Type 1} → statement M
 fields-fault-spec =
     tie.close
     (tie.spec
-    add-size
-    shared-slice-read-size
-    shared-slice-read-least-size
-    least-size-requires
-    sub-size-fault
-    size-fault-requires
+    (search needs)
+    (search needs)
+    (search needs)
+    (search needs)
+    (search needs)
+    (search needs)
     returns
     cast-end
     add-end
-    shared-slice-read-field-fault
-    sub-field-fault
-    part-field-fault-start
+    (search needs)
+    (search needs)
+    (search needs)
     part-field-fault-end
     field-fault-requires
     returns-2)

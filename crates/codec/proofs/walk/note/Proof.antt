@@ -4,12 +4,6 @@ use borrow.Author.Needs.{needs}
 use Rattle.codec.proofs.walk.note.Statement.{statement}
 use Rattle.codec.proofs.walk.note.Tie as tie
 
-mul-found : tie.Need-mul-found
-mul-found c = search needs
-
-element-write-found : tie.Need-element-write-found
-element-write-found c = search needs
-
 returns : tie.Need-returns
 returns c = (rw (lt-ltb _ 4 (c .if1 .taken)), simp length-set (c .before .pre))
 
@@ -17,4 +11,4 @@ returns-2 : tie.Need-returns-2
 returns-2 c = (rw (le-ltb _ 4 (c .if1 .left)), c .before .pre)
 
 pub note-spec : {M : Type 1} → statement M
-note-spec = tie.close (tie.spec mul-found element-write-found returns returns-2)
+note-spec = tie.close (tie.spec (search needs) (search needs) returns returns-2)

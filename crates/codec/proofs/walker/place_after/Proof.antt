@@ -4,20 +4,11 @@ use borrow.Author.Needs.{needs}
 use Rattle.codec.proofs.walker.place_after.Statement.{statement}
 use Rattle.codec.proofs.walker.place_after.Tie as tie
 
-add-result : tie.Need-add-result
-add-result c = search needs
-
-shared-slice-read-result : tie.Need-shared-slice-read-result
-shared-slice-read-result c = search needs
-
 cast-result : tie.Need-cast-result
 cast-result c = omega (arith, c .shared-slice-known .given (c .before .args .at + 1))
 
 add-result-2 : tie.Need-add-result-2
 add-result-2 c = omega (arith, c .shared-slice-known .given (c .before .args .at + 1))
 
-returns : tie.Need-returns
-returns c = search needs
-
 pub place-after-spec : {M : Type 1} → statement M
-place-after-spec = tie.close (tie.spec add-result shared-slice-read-result cast-result add-result-2 returns)
+place-after-spec = tie.close (tie.spec (search needs) (search needs) cast-result add-result-2 (search needs))

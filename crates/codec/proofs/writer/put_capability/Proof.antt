@@ -27,32 +27,17 @@ after-cs c = let s = c .before .before .before .before .before .before .before .
 after-nan : (c : tie.After-put-capability2) → let s = c .before .before .before .before .before .before .before .before .before .before .before .before .before .before .before in Room (c .put-capability2 .last .1 .1 .0) (c .put-capability2 .result) (chain capabilities (s .args .set) (fields capabilities (s .args .c)) (rssi ∷ []))
 after-nan c = let s = c .before .before .before .before .before .before .before .before .before .before .before .before .before .before .before in room-others capabilities (s .args .set) (fields capabilities (s .args .c)) (typed s) (uncounted (s .args .c)) nan (rssi ∷ []) (after-cs (c .before .before .before .before .before)) (c .before .before .has3 .ensures) (c .put-capability2 .ensures)
 
-has-requires : tie.Need-has-requires
-has-requires c κs = search needs
-
 put-capability-requires : tie.Need-put-capability-requires
 put-capability-requires c κs = let s = c .before .before .before .before in room-first capabilities (s .args .set) (fields capabilities (s .args .c)) (typed s) (uncounted (s .args .c)) uwb (cs ∷ nan ∷ rssi ∷ []) (room s) (c .before .has .ensures)
-
-has-requires-2 : tie.Need-has-requires-2
-has-requires-2 c κs = search needs
 
 put-block-requires : tie.Need-put-block-requires
 put-block-requires c κs = let s = c .before .before .before .before .before .before .before .before .before in room-first capabilities (s .args .set) (fields capabilities (s .args .c)) (typed s) (uncounted (s .args .c)) cs (nan ∷ rssi ∷ []) (after-uwb (c .before .before .before .before)) (c .before .has2 .ensures)
 
-has-requires-3 : tie.Need-has-requires-3
-has-requires-3 c κs = search needs
-
 put-capability-requires-2 : tie.Need-put-capability-requires-2
 put-capability-requires-2 c κs = let s = c .before .before .before .before .before .before .before .before .before .before .before .before .before .before in room-first capabilities (s .args .set) (fields capabilities (s .args .c)) (typed s) (uncounted (s .args .c)) nan (rssi ∷ []) (after-cs (c .before .before .before .before)) (c .before .has3 .ensures)
 
-has-requires-4 : tie.Need-has-requires-4
-has-requires-4 c κs = search needs
-
 put-block-requires-2 : tie.Need-put-block-requires-2
 put-block-requires-2 c κs = let s = c .before .before .before .before .before .before .before .before .before .before .before .before .before .before .before .before .before .before .before in room-first capabilities (s .args .set) (fields capabilities (s .args .c)) (typed s) (uncounted (s .args .c)) rssi ([]) (after-nan (c .before .before .before .before)) (c .before .has4 .ensures)
-
-same-length : tie.Need-same-length
-same-length c = search needs
 
 returns : tie.Need-returns
 returns c =
@@ -63,4 +48,4 @@ returns c =
     (rw (c .before .before .before .before .has4 .ensures) at (put-last (c .before .before .put-block2 .ensures)))))
 
 pub put-capability-spec : {M : Type 1} → statement M
-put-capability-spec = tie.close (tie.spec has-requires put-capability-requires has-requires-2 put-block-requires has-requires-3 put-capability-requires-2 has-requires-4 put-block-requires-2 same-length returns)
+put-capability-spec = tie.close (tie.spec (search needs) put-capability-requires (search needs) put-block-requires (search needs) put-capability-requires-2 (search needs) put-block-requires-2 (search needs) returns)

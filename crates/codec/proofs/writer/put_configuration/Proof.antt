@@ -37,32 +37,17 @@ after-cs c = let s = c .before .before .before .before .before .before .before .
 after-nan : (c : tie.After-put-configuration2) → let s = c .before .before .before .before .before .before .before .before .before .before .before .before .before .before .before in Room (c .put-configuration2 .last .1 .1 .0) (c .put-configuration2 .result) (chain configurations (s .args .set) (fields configurations (s .args .c)) (rssi ∷ []))
 after-nan c = let s = c .before .before .before .before .before .before .before .before .before .before .before .before .before .before .before in room-others configurations (s .args .set) (fields configurations (s .args .c)) (typed s) (s .pre .1) nan (rssi ∷ []) (after-cs (c .before .before .before .before .before)) (c .before .before .has3 .ensures) (c .put-configuration2 .ensures)
 
-has-requires : tie.Need-has-requires
-has-requires c κs = search needs
-
 put-configuration-requires : tie.Need-put-configuration-requires
 put-configuration-requires c κs = let s = c .before .before .before .before in (rw (uwb-size (s .args .c .uwb .«key_length»)) (room-first configurations (s .args .set) (fields configurations (s .args .c)) (typed s) (s .pre .1) uwb (cs ∷ nan ∷ rssi ∷ []) (room s) (c .before .has .ensures)), s .pre .1 uwb .0)
-
-has-requires-2 : tie.Need-has-requires-2
-has-requires-2 c κs = search needs
 
 put-block-requires : tie.Need-put-block-requires
 put-block-requires c κs = let s = c .before .before .before .before .before .before .before .before .before in room-first configurations (s .args .set) (fields configurations (s .args .c)) (typed s) (s .pre .1) cs (nan ∷ rssi ∷ []) (after-uwb (c .before .before .before .before)) (c .before .has2 .ensures)
 
-has-requires-3 : tie.Need-has-requires-3
-has-requires-3 c κs = search needs
-
 put-configuration-requires-2 : tie.Need-put-configuration-requires-2
 put-configuration-requires-2 c κs = let s = c .before .before .before .before .before .before .before .before .before .before .before .before .before .before in (rw (nan-size (s .args .c .nan .«name_length»)) (room-first configurations (s .args .set) (fields configurations (s .args .c)) (typed s) (s .pre .1) nan (rssi ∷ []) (after-cs (c .before .before .before .before)) (c .before .has3 .ensures)), s .pre .1 nan .0)
 
-has-requires-4 : tie.Need-has-requires-4
-has-requires-4 c κs = search needs
-
 put-block-requires-2 : tie.Need-put-block-requires-2
 put-block-requires-2 c κs = let s = c .before .before .before .before .before .before .before .before .before .before .before .before .before .before .before .before .before .before .before in room-first configurations (s .args .set) (fields configurations (s .args .c)) (typed s) (s .pre .1) rssi ([]) (after-nan (c .before .before .before .before)) (c .before .has4 .ensures)
-
-same-length : tie.Need-same-length
-same-length c = search needs
 
 returns : tie.Need-returns
 returns c =
@@ -73,4 +58,4 @@ returns c =
     (rw (c .before .before .before .before .has4 .ensures) at (put-last (c .before .before .put-block2 .ensures)))))
 
 pub put-configuration-spec : {M : Type 1} → statement M
-put-configuration-spec = tie.close (tie.spec has-requires put-configuration-requires has-requires-2 put-block-requires has-requires-3 put-configuration-requires-2 has-requires-4 put-block-requires-2 same-length returns)
+put-configuration-spec = tie.close (tie.spec (search needs) put-configuration-requires (search needs) put-block-requires (search needs) put-configuration-requires-2 (search needs) put-block-requires-2 (search needs) returns)

@@ -13,51 +13,6 @@ size-19 k = omega arith
 size-5 : (n : ℕ) → 5 + n ≡ 2 + (1 + n + (1 + (1 + 0)))
 size-5 n = omega arith
 
-has-requires : tie.Need-has-requires
-has-requires c κs = search needs
-
-cast-size-if : tie.Need-cast-size-if
-cast-size-if c = search needs
-
-add-size-if : tie.Need-add-size-if
-add-size-if c = search needs
-
-size-if-requires : tie.Need-size-if-requires
-size-if-requires c κs = search needs
-
-has-requires-2 : tie.Need-has-requires-2
-has-requires-2 c κs = search needs
-
-size-if-requires-2 : tie.Need-size-if-requires-2
-size-if-requires-2 c κs = search needs
-
-has-requires-3 : tie.Need-has-requires-3
-has-requires-3 c κs = search needs
-
-cast-size-if-2 : tie.Need-cast-size-if-2
-cast-size-if-2 c = search needs
-
-add-size-if-2 : tie.Need-add-size-if-2
-add-size-if-2 c = search needs
-
-size-if-requires-3 : tie.Need-size-if-requires-3
-size-if-requires-3 c κs = search needs
-
-has-requires-4 : tie.Need-has-requires-4
-has-requires-4 c κs = search needs
-
-size-if-requires-4 : tie.Need-size-if-requires-4
-size-if-requires-4 c κs = search needs
-
-add-result : tie.Need-add-result
-add-result c = search needs
-
-add-result-2 : tie.Need-add-result-2
-add-result-2 c = search needs
-
-add-result-3 : tie.Need-add-result-3
-add-result-3 c = search needs
-
 returns : tie.Need-returns
 returns c =
     let a = c .before .before .before .before .before .before .before .before .before .before .args in
@@ -68,19 +23,19 @@ pub size-configuration-spec : {M : Type 1} → statement M
 size-configuration-spec =
     tie.close
     (tie.spec
-    has-requires
-    cast-size-if
-    add-size-if
-    size-if-requires
-    has-requires-2
-    size-if-requires-2
-    has-requires-3
-    cast-size-if-2
-    add-size-if-2
-    size-if-requires-3
-    has-requires-4
-    size-if-requires-4
-    add-result
-    add-result-2
-    add-result-3
+    (search needs)
+    (search needs)
+    (search needs)
+    (search needs)
+    (search needs)
+    (search needs)
+    (search needs)
+    (search needs)
+    (search needs)
+    (search needs)
+    (search needs)
+    (search needs)
+    (search needs)
+    (search needs)
+    (search needs)
     returns)

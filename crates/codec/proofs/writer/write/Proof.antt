@@ -23,62 +23,23 @@ rest c = rw (c .before .rest-zero .ensures, c .is-zero-configuration .ensures)
 other : (c : tie.After-is-zero-configuration2) → (c .before .assigned .result && c .is-zero-configuration2 .result) ≡ (assigned (c .before .before .before .before .before .before .before .before .before .args .value .id) && validColumn configurations 0 (c .before .before .before .before .before .before .before .before .before .args .value .configuration))
 other c = rw (c .before .assigned .ensures, c .is-zero-configuration2 .ensures)
 
-rest-zero-requires : tie.Need-rest-zero-requires
-rest-zero-requires c κs = search needs
-
-is-zero-configuration-requires : tie.Need-is-zero-configuration-requires
-is-zero-configuration-requires c κs = search needs
-
-refused-requires : tie.Need-refused-requires
-refused-requires c κs = search needs
-
 returns : tie.Need-returns
 returns c = record { typed = typed (c .before .before .before .before .before .before .before); writes = rw (c .refused .ensures) (not-valid (c .before .before .before .before .before .before .before .args .value) (c .before .before .before .before .before .before .before .args .out .now) (rest-used _ (c .before .before .before .before .if1 .taken) (failed (rest (c .before .before)) (c .before .if2 .taken)))) }
-
-write-capability-response-requires : tie.Need-write-capability-response-requires
-write-capability-response-requires c κs = search needs
-
-same-length : tie.Need-same-length
-same-length c = search needs
 
 returns-2 : tie.Need-returns-2
 returns-2 c = record { typed = typed (c .before .before .before .before .before .before .before .before .before .before); writes = as-response (c .before .before .before .before .before .before .before .before .before .before .args .value) (c .before .before .before .before .before .before .before .before .before .before .args .out .now) (c .before .before .before .before .before .before .before .if1 .taken) (passed (rest (c .before .before .before .before .before)) (c .before .before .before .before .if2 .left)) (c .before .before .write-capability-response .ensures) }
 
-valid-capability-requires : tie.Need-valid-capability-requires
-valid-capability-requires c κs = search needs
-
-refused-requires-2 : tie.Need-refused-requires-2
-refused-requires-2 c κs = search needs
-
 returns-3 : tie.Need-returns-3
 returns-3 c = record { typed = typed (c .before .before .before .before .before .before); writes = rw (c .refused2 .ensures) (not-valid (c .before .before .before .before .before .before .args .value) (c .before .before .before .before .before .before .args .out .now) (capability-used _ (c .before .before .before .if1 .left) (failed (c .before .before .valid-capability .ensures) (c .before .if3 .taken)))) }
 
-write-configuration-requires : tie.Need-write-configuration-requires
-write-configuration-requires c κs = search needs
-
-same-length-2 : tie.Need-same-length-2
-same-length-2 c = search needs
-
 returns-4 : tie.Need-returns-4
 returns-4 c = record { typed = typed (c .before .before .before .before .before .before .before .before .before .before .before); writes = as-settings (c .before .before .before .before .before .before .before .before .before .before .before .args .value) (c .before .before .before .before .before .before .before .before .before .before .before .args .out .now) (c .before .before .before .before .before .before .before .before .if1 .left) (passed (c .before .before .before .before .before .before .before .valid-capability .ensures) (c .before .before .before .before .before .before .if3 .left)) (c .before .before .before .before .if4 .taken) (c .before .before .write-configuration .ensures) }
-
-assigned-requires : tie.Need-assigned-requires
-assigned-requires c κs = search needs
-
-is-zero-configuration-requires-2 : tie.Need-is-zero-configuration-requires-2
-is-zero-configuration-requires-2 c κs = search needs
-
-refused-requires-3 : tie.Need-refused-requires-3
-refused-requires-3 c κs = search needs
 
 returns-5 : tie.Need-returns-5
 returns-5 c = record { typed = typed (c .before .before .before .before .before .before .before .before .before .before .before); writes = rw (c .refused3 .ensures) (not-valid (c .before .before .before .before .before .before .before .before .before .before .before .args .value) (c .before .before .before .before .before .before .before .before .before .before .before .args .out .now) (configuration-used _ (c .before .before .before .before .before .before .before .before .if1 .left) (passed (c .before .before .before .before .before .before .before .valid-capability .ensures) (c .before .before .before .before .before .before .if3 .left)) (c .before .before .before .before .if4 .left) (failed (other (c .before .before)) (c .before .if5 .taken)))) }
 
 write-without-blocks-requires : tie.Need-write-without-blocks-requires
 write-without-blocks-requires c κs = (and-true (assigned (c .before .before .before .before .before .before .before .before .before .before .before .args .value .id)) _ (passed (other (c .before .before)) (c .before .if5 .left)) .0, c .before .before .before .before .before .before .before .before .if1 .left, c .before .before .before .before .if4 .left)
-
-same-length-3 : tie.Need-same-length-3
-same-length-3 c = search needs
 
 returns-6 : tie.Need-returns-6
 returns-6 c = record { typed = typed (c .before .before .before .before .before .before .before .before .before .before .before .before .before .before); writes = as-bare (c .before .before .before .before .before .before .before .before .before .before .before .before .before .before .args .value) (c .before .before .before .before .before .before .before .before .before .before .before .before .before .before .args .out .now) (c .before .before .before .before .before .before .before .before .before .before .before .if1 .left) (passed (c .before .before .before .before .before .before .before .before .before .before .valid-capability .ensures) (c .before .before .before .before .before .before .before .before .before .if3 .left)) (c .before .before .before .before .before .before .before .if4 .left) (passed (other (c .before .before .before .before .before)) (c .before .before .before .before .if5 .left)) (c .before .before .write-without-blocks .ensures) }
@@ -87,23 +48,23 @@ pub write-spec : {M : Type 1} → statement M
 write-spec =
     tie.close
     (tie.spec
-    rest-zero-requires
-    is-zero-configuration-requires
-    refused-requires
+    (search needs)
+    (search needs)
+    (search needs)
     returns
-    write-capability-response-requires
-    same-length
+    (search needs)
+    (search needs)
     returns-2
-    valid-capability-requires
-    refused-requires-2
+    (search needs)
+    (search needs)
     returns-3
-    write-configuration-requires
-    same-length-2
+    (search needs)
+    (search needs)
     returns-4
-    assigned-requires
-    is-zero-configuration-requires-2
-    refused-requires-3
+    (search needs)
+    (search needs)
+    (search needs)
     returns-5
     write-without-blocks-requires
-    same-length-3
+    (search needs)
     returns-6)

@@ -17,39 +17,18 @@ use Rattle.codec.proofs.writer.write_capability_response.Tie as tie
 long : (c : tie.Start) → length (columnOctets capabilities (c .args .set) (c .args .c)) ≡ columnSize capabilities (c .args .set) (c .args .c)
 long c = chain-size capabilities (c .args .set) (fields capabilities (c .args .c)) (capability-typed (c .args .c) _ (c .good .1 .0)) (uncounted (c .args .c)) technologies
 
-valid-only-requires : tie.Need-valid-only-requires
-valid-only-requires c κs = search needs
-
-refused-requires : tie.Need-refused-requires
-refused-requires c κs = search needs
-
 returns : tie.Need-returns
 returns c = rw (c .refused .ensures) (not-valid (response (c .before .before .before .before .args .set) (only (c .before .before .before .before .args .set) (c .before .before .before .before .args .c))) (c .before .before .before .before .args .out .now) (failed (c .before .before .valid-only .ensures) (c .before .if1 .taken)))
-
-size-capability-requires : tie.Need-size-capability-requires
-size-capability-requires c κs = search needs
-
-add-length : tie.Need-add-length
-add-length c = search needs
-
-refused-requires-2 : tie.Need-refused-requires-2
-refused-requires-2 c κs = search needs
 
 returns-2 : tie.Need-returns-2
 returns-2 c = let r = response (c .before .before .before .before .before .before .args .set) (only (c .before .before .before .before .before .before .args .set) (c .before .before .before .before .before .before .args .c)) in
     rw (c .refused2 .ensures)
     (too-short r (c .before .before .before .before .before .before .args .out .now) (passed (c .before .before .before .before .valid-only .ensures) (c .before .before .before .if1 .left)) (omega (arith, ap length (normal-response (c .before .before .before .before .before .before .args .set) (c .before .before .before .before .before .before .args .c)), c .before .before .size-capability .ensures .0 (c .before .before .before .before .before .before .args .c), long (c .before .before .before .before .before .before), c .before .if2 .taken)))
 
-put-head-requires : tie.Need-put-head-requires
-put-head-requires c κs = search needs
-
 put-capability-requires : tie.Need-put-capability-requires
 put-capability-requires c κs =
     let s = c .before .before .before .before .before .before .before .before .before .before in
     omega (arith, c .before .before .before .before .before .before .size-capability .ensures .0 (s .args .c), long s, c .before .before .before .before .before .if2 .left, c .before .before .before .put-head .ensures .place, c .before .before .before .put-head .ensures .same)
-
-same-length : tie.Need-same-length
-same-length c = search needs
 
 returns-3 : tie.Need-returns-3
 returns-3 c = let r = response (c .before .before .before .before .before .before .before .before .before .before .before .before .before .args .set) (only (c .before .before .before .before .before .before .before .before .before .before .before .before .before .args .set) (c .before .before .before .before .before .before .before .before .before .before .before .before .before .args .c)) in
@@ -61,14 +40,14 @@ pub write-capability-response-spec : {M : Type 1} → statement M
 write-capability-response-spec =
     tie.close
     (tie.spec
-    valid-only-requires
-    refused-requires
+    (search needs)
+    (search needs)
     returns
-    size-capability-requires
-    add-length
-    refused-requires-2
+    (search needs)
+    (search needs)
+    (search needs)
     returns-2
-    put-head-requires
+    (search needs)
     put-capability-requires
-    same-length
+    (search needs)
     returns-3)

@@ -31,38 +31,14 @@ fitting c = fit (c .before .before .before .args .set) (c .before .before .befor
 long : (c : tie.Else1) → let a = c .before .before .before .args in length (columnOctets configurations (a .set) (a .c)) ≡ columnSize configurations (a .set) (a .c)
 long c = let s = c .before .before .before in chain-size configurations (s .args .set) (fields configurations (s .args .c)) (configuration-typed (s .args .c) _ (s .good .1 .0)) (fitting c) technologies
 
-valid-configuration-requires : tie.Need-valid-configuration-requires
-valid-configuration-requires c κs = search needs
-
-refused-requires : tie.Need-refused-requires
-refused-requires c κs = search needs
-
 returns : tie.Need-returns
 returns c = rw (c .refused .ensures) (not-valid (settings (c .before .before .before .before .args .set) (c .before .before .before .before .args .c)) (c .before .before .before .before .args .out .now) (settings-valid _ _ ∙ failed (tested (c .before .before)) (c .before .if1 .taken)))
-
-size-configuration-requires : tie.Need-size-configuration-requires
-size-configuration-requires c κs = search needs
-
-add-length : tie.Need-add-length
-add-length c = search needs
-
-refused-requires-2 : tie.Need-refused-requires-2
-refused-requires-2 c κs = search needs
 
 returns-2 : tie.Need-returns-2
 returns-2 c = rw (c .refused2 .ensures) (too-short (settings (c .before .before .before .before .before .before .args .set) (c .before .before .before .before .before .before .args .c)) (c .before .before .before .before .before .before .args .out .now) (settings-valid _ _ ∙ holds (c .before .before .before)) (omega (arith, ap length (normal-settings (c .before .before .before .before .before .before .args .set) (c .before .before .before .before .before .before .args .c)), c .before .before .size-configuration .ensures .0, long (c .before .before .before), c .before .if2 .taken)))
 
-put-head-requires : tie.Need-put-head-requires
-put-head-requires c κs = search needs
-
-put-u16-requires : tie.Need-put-u16-requires
-put-u16-requires c κs = search needs
-
 put-configuration-requires : tie.Need-put-configuration-requires
 put-configuration-requires c κs = (omega (arith, c .before .before .before .before .before .before .before .before .before .before .size-configuration .ensures .0, long (c .before .before .before .before .before .before .before .before .before .before .before), c .before .before .before .before .before .before .before .before .before .if2 .left, c .before .before .before .before .before .before .before .put-head .ensures .place, c .before .before .before .before .before .before .before .put-head .ensures .same, c .before .before .before .put-u16 .ensures .place, c .before .before .before .put-u16 .ensures .same), fitting (c .before .before .before .before .before .before .before .before .before .before .before))
-
-same-length : tie.Need-same-length
-same-length c = search needs
 
 returns-3 : tie.Need-returns-3
 returns-3 c =
@@ -74,15 +50,15 @@ pub write-configuration-spec : {M : Type 1} → statement M
 write-configuration-spec =
     tie.close
     (tie.spec
-    valid-configuration-requires
-    refused-requires
+    (search needs)
+    (search needs)
     returns
-    size-configuration-requires
-    add-length
-    refused-requires-2
+    (search needs)
+    (search needs)
+    (search needs)
     returns-2
-    put-head-requires
-    put-u16-requires
+    (search needs)
+    (search needs)
     put-configuration-requires
-    same-length
+    (search needs)
     returns-3)

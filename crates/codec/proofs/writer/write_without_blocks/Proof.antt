@@ -14,23 +14,11 @@ use Rattle.codec.proofs.writer.write_without_blocks.Tie as tie
 validity : (c : tie.Start) → valid (withoutBlocks (c .args .id) (c .args .set)) ≡ ltb (c .args .set) 16
 validity c = bare-valid (c .args .id) (c .args .set) (c .pre .0) (c .pre .1) (c .pre .2)
 
-refused-requires : tie.Need-refused-requires
-refused-requires c κs = search needs
-
 returns : tie.Need-returns
 returns c = rw (c .refused .ensures) (not-valid (withoutBlocks (c .before .before .before .args .id) (c .before .before .before .args .set)) (c .before .before .before .args .out .now) (validity (c .before .before .before) ∙ le-ltb (c .before .before .before .args .set) 16 (c .before .if1 .taken)))
 
-refused-requires-2 : tie.Need-refused-requires-2
-refused-requires-2 c κs = search needs
-
 returns-2 : tie.Need-returns-2
 returns-2 c = rw (c .refused2 .ensures) (too-short (withoutBlocks (c .before .before .before .before .args .id) (c .before .before .before .before .args .set)) (c .before .before .before .before .args .out .now) (validity (c .before .before .before .before) ∙ lt-ltb (c .before .before .before .before .args .set) 16 (c .before .before .if1 .left)) (omega (arith, ap length (normal-bare (c .before .before .before .before .args .id) (c .before .before .before .before .args .set) (c .before .before .before .before .pre .1) (c .before .before .before .before .pre .2)), c .before .if2 .taken)))
-
-put-head-requires : tie.Need-put-head-requires
-put-head-requires c κs = search needs
-
-same-length : tie.Need-same-length
-same-length c = search needs
 
 returns-3 : tie.Need-returns-3
 returns-3 c =
@@ -41,10 +29,10 @@ pub write-without-blocks-spec : {M : Type 1} → statement M
 write-without-blocks-spec =
     tie.close
     (tie.spec
-    refused-requires
+    (search needs)
     returns
-    refused-requires-2
+    (search needs)
     returns-2
-    put-head-requires
-    same-length
+    (search needs)
+    (search needs)
     returns-3)
