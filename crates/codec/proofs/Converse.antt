@@ -35,7 +35,7 @@ use Rattle.codec.proofs.Risings.{Ascending, ascending}
 use Rattle.codec.proofs.Rows.{Carries, column, carries, column-there, named-there, known-named}
 use Rattle.codec.proofs.MessageCases.{assigned-under}
 use Rattle.codec.proofs.Exact.{small}
-use Rattle.codec.proofs.ReadBack.{passed}
+use Rattle.codec.proofs.ReadBack.{is-valid}
 
 -- ---- lists of blocks
 
@@ -150,8 +150,8 @@ module _ (m : List ℕ) (o : Octets m) (r : Record) (f : WellFormed m r) where
   pub record-valid : TypedRecord r × (valid r ≡ true)
   record-valid =
       subst (λ (r : Record). TypedRecord r × (valid r ≡ true)) (sym (f .says)) (
-        record { id = assigned-under (f .id) (f .known); set = omega arith; cells = λ k t. cell-ok k t .0 },
-        passed content (record { known = f .known; set = omega arith; cells = λ k t. cell-ok k t .1 }),
+        record { id = assigned-under (f .id) (f .idAssigned); set = omega arith; cells = λ k t. cell-ok k t .0 },
+        is-valid content (record { idAssigned = f .idAssigned; set = omega arith; cells = λ k t. cell-ok k t .1 }),
       )
 
 -- ---- a message in normal form is what is written of its record
@@ -238,7 +238,7 @@ module _ (m : List ℕ) (o : Octets m) (n : NormalForm m) where
   abbrev its : Record
   its = content m o (n .content) g
 
-  blocks-are : (c : Option Column) → row (g .id) .blocks ≡ c → Carries (g .id) c → columnBlocks c its ≡ g .blocks
+  blocks-are : (c : Option Column) → row (g .id) .column ≡ c → Carries (g .id) c → columnBlocks c its ≡ g .blocks
   blocks-are none h p = no-blocks (g .blocks) (g .count ∙ ap (λ (c : Option Column). blockCount c (g .set)) h)
   blocks-are (some k) h (column _ e) =
       let y = eq-eqb (g .id) (messageOf k) e in
@@ -268,7 +268,7 @@ module _ (m : List ℕ) (o : Octets m) (n : NormalForm m) where
   unfolding normal
   normal-is =
       let s : known (g .set) ≡ g .set = mod-eq-of-lt (n .known) in
-      let b = blocks-are (row (g .id) .blocks) refl (carries (g .id)) in
+      let b = blocks-are (row (g .id) .column) refl (carries (g .id)) in
       let T = row (g .id) .times in
       let e : m ≡ 1 ∷ (g .id ∷ (sets T (g .set) ++ flatten (g .blocks))) =
       g .octets ∙ (λ i. n .first i ∷ (g .id ∷ (sets T (g .set) ++ (flatten (g .blocks) ++ g .ends (n .first) i)))) ∙ ap (λ (l : List ℕ). 1 ∷ (g .id ∷ (sets T (g .set) ++ l))) (append-nil (flatten (g .blocks))) in

@@ -81,7 +81,7 @@ pub demand-2 : Demand2
 demand-2 = record {
   exact = λ m a h r. subst (λ (b : Reading). (b ≡ accepted r) ↔ WellFormed m r) (sym (h .answers)) (exact m (h .octets) r);
   writes = λ r d e w h v l. let z = fitted r (h .writes) v l .0 in record {
-    accepted = z;
+    number = z;
     size = fitted r (h .writes) v l .1;
     octets = wrote r (h .writes) z .1;
     form = normal-normal r (h .typed) v;

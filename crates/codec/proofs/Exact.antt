@@ -81,7 +81,7 @@ forth : (m : List ℕ) → Octets m → (blocks : List (List ℕ)) → parse m �
 forth m o blocks e =
     let p = parsed m blocks e in
     let R = row (idOf m) in
-    let w = walked (layoutsOf (R .blocks)) (setOf m) m (blockCount (R .blocks) (setOf m)) noId (blocksAt (R .times)) (record { blocks = blocks; end = p .end }) (p .sets) (p .walked) in
+    let w = walked (layoutsOf (R .column)) (setOf m) m (blockCount (R .column) (setOf m)) noId (blocksAt (R .times)) (record { blocks = blocks; end = p .end }) (p .sets) (p .walked) in
     record {
       version = versionOf m;
       id = idOf m;
@@ -92,8 +92,8 @@ forth m o blocks e =
           head-two m (p .head)
           ∙ ap (λ (l : List ℕ). versionOf m ∷ (idOf m ∷ l)) (sets-lie (R .times) m (times-one (idOf m)) (times-two (idOf m)) o (p .sets) (p .agree) ∙ ap (λ (l : List ℕ). sets (R .times) (setOf m) ++ l) (w .lie));
       limit = p .limit;
-      known = p .known;
-      readable = readable-is (versionOf m) (idOf m) (p .readable);
+      idAssigned = p .idAssigned;
+      readable = readable-is (versionOf m) (idOf m) (p .version);
       count = w .count;
       whole = w .whole;
       once = w .once;
@@ -146,13 +146,13 @@ module _ (m : List ℕ) (o : Octets m) (r : Record) (f : WellFormed m r) where
   back : parse m ≡ accept (f .blocks)
   unfolding parse body afterHead blocksFrom end
   back =
-      let w = walks (layoutsOf (R .blocks)) (f .set) m (f .blocks) noId (blocksAt (R .times)) (f .rest) (placed .0) (placed .2) (f .whole) (fresh-noId (f .blocks)) (f .once) in
+      let w = walks (layoutsOf (R .column)) (f .set) m (f .blocks) noId (blocksAt (R .times)) (f .rest) (placed .0) (placed .2) (f .whole) (fresh-noId (f .blocks)) (f .once) in
       rw (
         version-is,
         id-is,
         le-leb (length m) messageLimit (f .limit),
         le-leb 2 (length m) two-octets,
-        f .known,
+        f .idAssigned,
         is-readable (f .version) (f .id) (f .readable),
         le-leb (blocksAt (R .times)) (length m) (placed .0),
         placed .1,

@@ -105,7 +105,7 @@ zeroed-only (counted y x t c ∷ L) v h e =
 
 -- ---- what was written is read back
 
--- a counted field that is allowed, taken apart
+-- a counted field that is allowed, fieldsSize apart
 module _ {C : Type 0} (t : Test) (c : ℕ) (L : Layout) where
   counted-apart : (bounded t c && fits L) ≡ true → (n : ℕ) (l : List ℕ) (v : Values L) → length l ≡ c → (test t n && allowed L v) ≡ true
       → (fits L ≡ true → n ≤ c → length (take n l) ≡ n → allowed L v ≡ true → C) → C

@@ -9,7 +9,7 @@ use lib.Dec.{leb, ltb, eqb}
 use lib.ListN.{length, getD, set, replicate, getD-replicate, length-set}
 use lib.Seq.{getD-set-same, getD-set-other}
 use borrow.Author.Tests.{eqb-true, eqb-false, eq-eqb, ne-eqb, lt-ltb, not-true, leb-true}
-use Rattle.codec.specs.Refusal.{Checked, refuse, accept, andThen, numberIn, tooLong, endsEarly, reservedId, wrongVersion, setsDiffer}
+use Rattle.codec.specs.Refusal.{Checked, refuse, accept, andThen, tooLong, endsEarly, reservedId, wrongVersion, setsDiffer}
 use Rattle.codec.specs.Technology.{Technology, technologyId, bit, known, names}
 use Rattle.codec.specs.Layout.{Layout, zeroes, value}
 use Rattle.codec.specs.Blocks.{Column, capabilities, configurations, cell, layouts}
@@ -17,7 +17,7 @@ use Rattle.codec.specs.Table.{messageLimit, assigned, readable, messageO
 use Rattle.codec.specs.Records.{make, answer, accepted, refused}
 use Rattle.codec.specs.Message.{versionOf, idOf, setOf, setsAgree, blocksAt, blockAt, also, noId, blockFault, Walked, prepend, walk, endFault, blocksFrom, afterHead, body, parse, fieldsIn, recordOf, reading}
 use Rattle.codec.specs.WellFormed.{Whole, Each}
-use Rattle.codec.specs.Inner.Places.{Roomy, note, noted, carriesBlocks, Judged, blockOrZeros, columnFound, Placed, recordAt}
+use Rattle.codec.specs.Inner.Places.{numberIn, Roomy, note, noted, carriesBlocks, Judged, blockOrZeros, columnFound, Placed, recordAt}
 use Rattle.codec.proofs.Outcomes.{by-bool, by-number, and-true, or-false, demanded, chained}
 use Rattle.codec.proofs.Layouts.{roomy}
 use Rattle.codec.proofs.Cells.{cell-fits, cell-zeros, layout-of, technology-below}
@@ -131,12 +131,12 @@ module _ (k : Column) (set₀ : ℕ) (m : List ℕ) (t : Technology) where
 pub record Parsed (m : List ℕ) (blocks : List (List ℕ)) : Type 0 where
   pub limit : length m ≤ messageLimit
   pub head : 2 ≤ length m
-  pub known : assigned (idOf m) ≡ true
-  pub readable : readable (versionOf m) (idOf m) ≡ true
+  pub idAssigned : assigned (idOf m) ≡ true
+  pub version : readable (versionOf m) (idOf m) ≡ true
   pub sets : blocksAt (row (idOf m) .times) ≤ length m
   pub agree : setsAgree (row (idOf m) .times) m ≡ true
   pub end : ℕ
-  pub walked : walk (layoutsOf (row (idOf m) .blocks)) (setOf m) m (blockCount (row (idOf m) .blocks) (setOf m)) noId (blocksAt (row (idOf m) .times)) ≡ accept (record { blocks = blocks; end = end })
+  pub walked : walk (layoutsOf (row (idOf m) .column)) (setOf m) m (blockCount (row (idOf m) .column) (setOf m)) noId (blocksAt (row (idOf m) .times)) ≡ accept (record { blocks = blocks; end = end })
   pub ended : endFault m end ≡ accept tt
 
 pub parsed : (m : List ℕ) (blocks : List (List ℕ)) → parse m ≡ accept blocks → Parsed m blocks
@@ -149,14 +149,14 @@ parsed m blocks e =
     demanded (readable (versionOf m) (idOf m)) wrongVersion _ blocks e₃ λ y₄ e₄.
     demanded (leb (blocksAt (R .times)) (length m)) endsEarly _ blocks e₄ λ y₅ e₅.
     demanded (setsAgree (R .times) m) setsDiffer _ blocks e₅ λ y₆ e₆.
-    chained (walk (layoutsOf (R .blocks)) (setOf m) m (blockCount (R .blocks) (setOf m)) noId (blocksAt (R .times))) _ blocks e₆ λ w e₇ e₈.
+    chained (walk (layoutsOf (R .column)) (setOf m) m (blockCount (R .column) (setOf m)) noId (blocksAt (R .times))) _ blocks e₆ λ w e₇ e₈.
     chained (endFault m (w .end)) _ blocks e₈ λ u e₉ e₁₀.
     let q : w .blocks ≡ blocks = cc in
     record {
       limit = leb-true _ _ y₁;
       head = leb-true _ _ y₂;
-      known = y₃;
-      readable = y₄;
+      idAssigned = y₃;
+      version = y₄;
       sets = leb-true _ _ y₅;
       agree = y₆;
       end = w .end;
@@ -192,7 +192,7 @@ module _ (m : List ℕ) (blocks : List (List ℕ)) (e : parse m ≡ accept block
   absent-zero : (k : Column) → idOf m ≡ messageOf k → (t : Technology) → names (setOf m) t ≡ false → fieldsIn (cell k t) (technologyId t) blocks ≡ zeroes (cell k t)
   absent-zero k h t n = no-block k (setOf m) t blocks (walked (layouts k) (setOf m) m (blockCount (some k) (setOf m)) noId start (record { blocks = blocks; end = p .end }) (p .sets) (walked-column k h) .whole) n
 
-  module _ (found : List ℕ) (f : carriesBlocks (row (idOf m) .blocks) ≡ true → found ≡ noted blocks start (replicate 5 0)) where
+  module _ (found : List ℕ) (f : carriesBlocks (row (idOf m) .column) ≡ true → found ≡ noted blocks start (replicate 5 0)) where
     places : (k : Column) → idOf m ≡ messageOf k → found ≡ noted blocks start (replicate 5 0)
     places k h = f (ap carriesBlocks (column-there (idOf m) k (eq-eqb (idOf m) (messageOf k) h)))
 
@@ -226,10 +226,10 @@ pub record Found (m found : List ℕ) : Type 0 where
   pub placed : (k : Column) → idOf m ≡ messageOf k → Placed k m found
   pub reads : accepted (recordAt m found) ≡ answer (reading m)
 
-pub found-by : (m : List ℕ) → {f : ℕ} {found : List ℕ} → Judged (carriesBlocks (row (idOf m) .blocks)) (parse m) (blocksAt (row (idOf m) .times)) (replicate 5 0) f found → f ≡ 0 → Found m found
+pub found-by : (m : List ℕ) → {f : ℕ} {found : List ℕ} → Judged (carriesBlocks (row (idOf m) .column)) (parse m) (blocksAt (row (idOf m) .times)) (replicate 5 0) f found → f ≡ 0 → Found m found
 found-by m {f} {found} j z =
     by-number (parse m) (sym (j .number) ∙ z) λ blocks e.
-    let places : carriesBlocks (row (idOf m) .blocks) ≡ true → found ≡ noted blocks (blocksAt (row (idOf m) .times)) (replicate 5 0) = λ k. j .places k blocks e in
+    let places : carriesBlocks (row (idOf m) .column) ≡ true → found ≡ noted blocks (blocksAt (row (idOf m) .times)) (replicate 5 0) = λ k. j .places k blocks e in
     record {
       four = four m blocks e;
       placed = placed m blocks e found places (j .size);

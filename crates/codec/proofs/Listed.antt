@@ -4,11 +4,11 @@ use native.Mathlib.Numerals.{sub-one}
 use mathlib.Core.Path.{_≡_, refl, sym, ap, _∙_}
 use mathlib.Core.List.{List, []}
 use lib.ListN.{length, getD}
-use Rattle.codec.specs.Refusal.{Checked, refuse, accept, numberIn}
+use Rattle.codec.specs.Refusal.{Checked, refuse, accept}
 use Rattle.codec.specs.Table.{row, blockCount, layoutsOf}
 use Rattle.codec.specs.Message.{idOf, setOf, blocksAt, blockAt, placeAfter, also, noId, blockFault, Walked, prepend, walk, parse}
 use Rattle.codec.specs.Listing.{noBlock, nthFrom, listed, nthBlock}
-use Rattle.codec.specs.Inner.Places.{headAt, Passes, NthBlock}
+use Rattle.codec.specs.Inner.Places.{numberIn, headAt, Passes, NthBlock}
 use Rattle.codec.specs.declared.records.Block.{Block}
 use Rattle.codec.proofs.Outcomes.{by-number, chained}
 use Rattle.codec.proofs.WalkCases.{Sound, sound}
@@ -56,8 +56,8 @@ module _ (m : List ℕ) (at : ℕ) where
 
 -- ---- a message, by the number of its first fault
 
-abbrev passes : (m : List ℕ) (blocks : List (List ℕ)) → parse m ≡ accept blocks → Passes m (blockCount (row (idOf m) .blocks) (setOf m)) (blocksAt (row (idOf m) .times))
-passes m blocks a = let p = parsed m blocks a in record { layouts = layoutsOf (row (idOf m) .blocks); set = setOf m; came = noId; walked = record { blocks = blocks; end = p .end }; accepted = p .walked }
+abbrev passes : (m : List ℕ) (blocks : List (List ℕ)) → parse m ≡ accept blocks → Passes m (blockCount (row (idOf m) .column) (setOf m)) (blocksAt (row (idOf m) .times))
+passes m blocks a = let p = parsed m blocks a in record { layouts = layoutsOf (row (idOf m) .column); set = setOf m; came = noId; walked = record { blocks = blocks; end = p .end }; accepted = p .walked }
 
 module _ (m : List ℕ) (f : ℕ) (e : f ≡ numberIn (parse m)) where
   pub lists-refused : (n : ℕ) → (f ≡ 0 → ⊥) → noBlock ≡ nthBlock m n
@@ -69,12 +69,12 @@ module _ (m : List ℕ) (f : ℕ) (e : f ≡ numberIn (parse m)) where
       go (accept blocks) e = absurd (h e)
 
   module _ (z : f ≡ 0) where
-    pub room : 4 ≤ length m
-    room = by-number (parse m) (sym e ∙ z) λ blocks a. four m blocks a
+    pub set-room : 4 ≤ length m
+    set-room = by-number (parse m) (sym e ∙ z) λ blocks a. four m blocks a
 
-    pub passes-all : Passes m (blockCount (row (idOf m) .blocks) (setOf m)) (blocksAt (row (idOf m) .times))
+    pub passes-all : Passes m (blockCount (row (idOf m) .column) (setOf m)) (blocksAt (row (idOf m) .times))
     passes-all = by-number (parse m) (sym e ∙ z) λ blocks a. passes m blocks a
 
-    pub lists-message : (n : ℕ) (r : Block) → NthBlock m (blockCount (row (idOf m) .blocks) (setOf m)) (blocksAt (row (idOf m) .times)) n r → r ≡ nthBlock m n
+    pub lists-message : (n : ℕ) (r : Block) → NthBlock m (blockCount (row (idOf m) .column) (setOf m)) (blocksAt (row (idOf m) .times)) n r → r ≡ nthBlock m n
     unfolding nthBlock
     lists-message n r h = by-number (parse m) (sym e ∙ z) λ blocks a. rw a (h (passes m blocks a))

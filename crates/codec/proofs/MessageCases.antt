@@ -9,11 +9,11 @@ use mathlib.Core.List.{List, []}
 use lib.Dec.{leb, eqb, ltb}
 use lib.ListN.{length, getD}
 use borrow.Author.Tests.{le-leb, lt-leb, leb-true, leb-false, ne-eqb}
-use Rattle.codec.specs.Refusal.{Checked, refuse, accept, andThen, numberOf, numberIn, tooLong, endsEarly, reservedId, wrongVersion, setsDiffer, leftOver}
+use Rattle.codec.specs.Refusal.{Checked, refuse, accept, andThen, numberOf, tooLong, endsEarly, reservedId, wrongVersion, setsDiffer, leftOver}
 use Rattle.codec.specs.Layout.{Layout, member}
 use Rattle.codec.specs.Table.{messageLimit, assigned, readable, Row, row, blockCount, layoutsOf}
 use Rattle.codec.specs.Message.{versionOf, idOf, setOf, setsAgree, blocksAt, noId, Walked, walk, endFault, blocksFrom, afterHead, body, parse}
-use Rattle.codec.specs.Inner.Places.{noted, setAlone, Finds, Judged}
+use Rattle.codec.specs.Inner.Places.{numberIn, noted, setAlone, Finds, Judged}
 use Rattle.codec.proofs.Outcomes.{by-bool, no-zero}
 
 -- ---- what is judged
@@ -109,7 +109,7 @@ module _ (m : List ℕ) where
       unfolding afterHead
       body-sets s = rw (← body-is, le-leb (blocksAt (R .times)) (length m) l, s)
 
-      pub body-blocks : setsAgree (R .times) m ≡ true → blocksFrom (layoutsOf (R .blocks)) m (blockCount (R .blocks) (setOf m)) (blocksAt (R .times)) ≡ body m
+      pub body-blocks : setsAgree (R .times) m ≡ true → blocksFrom (layoutsOf (R .column)) m (blockCount (R .column) (setOf m)) (blocksAt (R .times)) ≡ body m
       unfolding afterHead
       body-blocks s = rw (← body-is, le-leb (blocksAt (R .times)) (length m) l, s)
 

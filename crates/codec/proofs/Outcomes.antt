@@ -3,7 +3,8 @@ use Prim.Native.Nat.{ℕ}
 use native.Mathlib.Omega.{arith}
 use mathlib.Core.Path.{_≡_, refl}
 use mathlib.Core.Bool.{Bool, true, false, _&&_, _||_}
-use Rattle.codec.specs.Refusal.{Refusal, tooLong, endsEarly, reservedId, wrongVersion, setsDiffer, blockTooSmall, wrongBlock, notAllowed, leftOver, notForTag, bufferTooShort, notValid, brokenRecord, numberOf, Checked, refuse, accept, demand, andThen, numberIn}
+use Rattle.codec.specs.Refusal.{Refusal, tooLong, endsEarly, reservedId, wrongVersion, setsDiffer, blockTooSmall, wrongBlock, notAllowed, leftOver, notForTag, bufferTooShort, notValid, brokenRecord, numberOf, Checked, refuse, accept, demand, andThen}
+use Rattle.codec.specs.Inner.Places.{numberIn}
 
 pub by-bool : {C : Type 0} (t : Bool) → (t ≡ true → C) → (t ≡ false → C) → C
 by-bool true f g = f refl

@@ -7,14 +7,15 @@ use mathlib.Core.Bool.{Bool, true, false, _&&_, cond, and-true as with-true}
 use mathlib.Core.List.{List, [], _∷_, _++_, flatten}
 use lib.Dec.{eqb}
 use lib.ListN.{length}
-use borrow.Author.Tests.{eqb-true, eq-eqb, ne-eqb, lt-leb, le-leb}
+use borrow.Author.Tests.{eqb-true, eq-eqb, lt-leb, le-leb}
 use Rattle.codec.specs.Refusal.{numberOf, bufferTooShort, notValid}
 use Rattle.codec.specs.Octets.{toLE, allZero}
 use Rattle.codec.specs.Technology.{Technology, uwb, cs, nan, rssi, technologyId, technologies, names}
 use Rattle.codec.specs.Layout.{Layout, number, octets, counted, test, spelled, Values, zeroes, allowed, cleared, zeroed}
 use Rattle.codec.specs.Blocks.{csCapability, csConfiguration, Column, capabilities, configurations, cell}
-use Rattle.codec.specs.Table.{assigned, messageOf, row}
-use Rattle.codec.specs.Records.{fields, columnIn, ofRecord, response, only, settings, withoutBlocks, messageId, setRecord}
+use Rattle.codec.specs.Table.{assigned, messageOf, Row, row}
+use Rattle.codec.specs.Inner.Places.{setAlone}
+use Rattle.codec.specs.Records.{fields, columnIn, ofRecord, response, only, settingsRecord, withoutBlocks, messageId, setRecord}
 use Rattle.codec.specs.Valid.{validFields, validColumn, valid}
 use Rattle.codec.specs.WellFormed.{sets}
 use Rattle.codec.specs.NormalForm.{block, rising, columnBlocks, normal}
@@ -55,12 +56,12 @@ module _ (r : Record) where
   unfolding normal
   normal-column k h =
       let there = column-there (messageOf k) k (eq-eqb (messageOf k) (messageOf k) refl) in
-      ap (λ (id : ℕ). 1 ∷ (id ∷ (sets (row id .times) (r .set) ++ flatten (columnBlocks (row id .blocks) r)))) h
+      ap (λ (id : ℕ). 1 ∷ (id ∷ (sets (row id .times) (r .set) ++ flatten (columnBlocks (row id .column) r)))) h
       ∙ ap (λ (l : List ℕ). 1 ∷ (messageOf k ∷ (sets (row (messageOf k) .times) (r .set) ++ l))) (ap (λ (c : Option Column). flatten (columnBlocks c r)) there ∙ rising-octets k (ofRecord r k) (r .set) technologies)
 
-  pub normal-other : (r .id ≡ 1 → ⊥) → (r .id ≡ 2 → ⊥) → normal r ≡ head (r .id) (r .set)
+  normal-alone : row (r .id) ≡ setAlone → normal r ≡ head (r .id) (r .set)
   unfolding normal flatten
-  normal-other h k = rw (ne-eqb (r .id) 1 h, ne-eqb (r .id) 2 k)
+  normal-alone e = ap (λ (R : Row). 1 ∷ (r .id ∷ (sets (R .times) (r .set) ++ flatten (columnBlocks (R .column) r)))) e
 
 -- the blocks that a set names are those of what it leaves of a capability
 only-octets : (set : ℕ) (c : Capability) → columnOctets capabilities set (only set c) ≡ columnOctets capabilities set c
@@ -84,20 +85,20 @@ normal-response set c = normal-column (response set (only set c)) capabilities r
 pub put-response : (set : ℕ) (c : Capability) {d e : List ℕ} {next : ℕ} → Put d 0 (head 1 set ++ columnOctets capabilities set c) e next → Put d 0 (normal (response set (only set c))) e next
 put-response set c p = rw (normal-response set c) p
 
-pub normal-settings : (set : ℕ) (c : Configuration) → normal (settings set c) ≡ head 2 set ++ (toLE 2 set ++ columnOctets configurations set c)
-normal-settings set c = normal-column (settings set c) configurations refl
+pub normal-settings : (set : ℕ) (c : Configuration) → normal (settingsRecord set c) ≡ head 2 set ++ (toLE 2 set ++ columnOctets configurations set c)
+normal-settings set c = normal-column (settingsRecord set c) configurations refl
 
-pub put-settings : (set : ℕ) (c : Configuration) {d e : List ℕ} {next : ℕ} → Put d 0 (head 2 set ++ (toLE 2 set ++ columnOctets configurations set c)) e next → Put d 0 (normal (settings set c)) e next
+pub put-settings : (set : ℕ) (c : Configuration) {d e : List ℕ} {next : ℕ} → Put d 0 (head 2 set ++ (toLE 2 set ++ columnOctets configurations set c)) e next → Put d 0 (normal (settingsRecord set c)) e next
 put-settings set c p = rw (normal-settings set c) p
 
-pub normal-bare : (id set : ℕ) → (id ≡ 1 → ⊥) → (id ≡ 2 → ⊥) → normal (withoutBlocks id set) ≡ head id set
-normal-bare id set n m = normal-other (withoutBlocks id set) n m
+pub normal-bare : (id set : ℕ) → row id ≡ setAlone → normal (withoutBlocks id set) ≡ head id set
+normal-bare id set e = normal-alone (withoutBlocks id set) e
 
 pub normal-set : (message : SetMessage) (set : ℕ) → normal (setRecord message set) ≡ head (messageId message) set
-normal-set message set = let a = set-assigned message in normal-bare (messageId message) set (a .1) (a .2)
+normal-set message set = let a = set-assigned message in normal-bare (messageId message) set (a .1)
 
-pub put-bare : (id set : ℕ) → (id ≡ 1 → ⊥) → (id ≡ 2 → ⊥) → {d e : List ℕ} {next : ℕ} → Put d 0 (head id set) e next → Put d 0 (normal (withoutBlocks id set)) e next
-put-bare id set n m p = rw (normal-bare id set n m) p
+pub put-bare : (id set : ℕ) → row id ≡ setAlone → {d e : List ℕ} {next : ℕ} → Put d 0 (head id set) e next → Put d 0 (normal (withoutBlocks id set)) e next
+put-bare id set h p = rw (normal-bare id set h) p
 
 -- ---- the counted octets of a valid record fit their arrays
 
@@ -161,10 +162,10 @@ module _ (r : Record) (d : List ℕ) where
     as-response h z = alike (response (r .set) (only (r .set) (r .capability))) (only-of r h ∙ rw z (with-true (valid (response (r .set) (only (r .set) (r .capability)))))) (normal-column r capabilities h ∙ sym (normal-response (r .set) (r .capability)))
 
     module _ (n : r .id ≡ 1 → ⊥) (z : validColumn capabilities 0 (r .capability) ≡ true) where
-      pub as-settings : r .id ≡ 2 → Writes (settings (r .set) (r .configuration)) d a e → Writes r d a e
-      as-settings h = alike (settings (r .set) (r .configuration)) (settings-of r n z h) (normal-column r configurations h ∙ sym (normal-settings (r .set) (r .configuration)))
+      pub as-settings : r .id ≡ 2 → Writes (settingsRecord (r .set) (r .configuration)) d a e → Writes r d a e
+      as-settings h = alike (settingsRecord (r .set) (r .configuration)) (settings-of r n z h) (normal-column r configurations h ∙ sym (normal-settings (r .set) (r .configuration)))
 
-      pub as-bare : (r .id ≡ 2 → ⊥) → (assigned (r .id) && validColumn configurations 0 (r .configuration)) ≡ true → Writes (withoutBlocks (r .id) (r .set)) d a e → Writes r d a e
+      pub as-bare : row (r .id) ≡ setAlone → (assigned (r .id) && validColumn configurations 0 (r .configuration)) ≡ true → Writes (withoutBlocks (r .id) (r .set)) d a e → Writes r d a e
       as-bare m t =
           let s = and-true (assigned (r .id)) _ t .0 in
-          alike (withoutBlocks (r .id) (r .set)) (bare-of r n z m ∙ rw t (sym (bare-valid (r .id) (r .set) s n m))) (normal-other r n m ∙ sym (normal-bare (r .id) (r .set) n m))
+          alike (withoutBlocks (r .id) (r .set)) (bare-of r n z m ∙ rw t (sym (bare-valid (r .id) (r .set) s m))) (normal-alone r m ∙ sym (normal-bare (r .id) (r .set) m))

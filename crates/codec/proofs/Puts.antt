@@ -12,7 +12,7 @@ use Rattle.codec.specs.Octets.{toLE}
 use Rattle.codec.specs.Technology.{Technology, technologyId, names}
 use Rattle.codec.specs.Layout.{Layout, number, octets, counted, Values, Typed, write}
 use Rattle.codec.specs.Blocks.{Column, cell}
-use Rattle.codec.specs.Inner.Puts.{over, Put, blockIf, taken, blockSize, chain, chainSize, Held}
+use Rattle.codec.specs.Inner.Puts.{over, Put, blockIf, fieldsSize, blockSize, chain, chainSize, Held}
 use Rattle.codec.proofs.Laws.{long-LE}
 
 module _ (d : List ℕ) (at : ℕ) where
@@ -90,7 +90,7 @@ module _ (present : Bool) where
 
 -- ---- how many octets are written
 
-write-taken : (L : Layout) (v : Values L) → Typed L v → Held L v → length (write L v) ≡ taken L v
+write-taken : (L : Layout) (v : Values L) → Typed L v → Held L v → length (write L v) ≡ fieldsSize L v
 write-taken [] v h k = refl
 write-taken (number x w t ∷ L) v h k = simp length-append (omega (arith, write-taken L (v .1) (h .1) k, long-LE w (v .0)))
 write-taken (octets x n t ∷ L) v h k = simp length-append (omega (arith, write-taken L (v .1) (h .1 .1) k, h .0))

@@ -26,7 +26,7 @@ use Rattle.codec.proofs.Fields.{octets-none, octets-cons, octets-append
 use Rattle.codec.proofs.Counting.{count-under}
 use Rattle.codec.proofs.Every.{a-technology, a-column, every-at, every-all}
 use Rattle.codec.proofs.Cells.{layout-of, record-is}
-use Rattle.codec.proofs.Risings.{rising-once, ascending, total, Block, rising-each, rising-rises, rising-count, rising-fields, rising-size, octets-rising, block-back}
+use Rattle.codec.proofs.Risings.{rising-once, ascending, total, BlockOf, rising-each, rising-rises, rising-count, rising-fields, rising-size, octets-rising, block-back}
 use Rattle.codec.proofs.Rows.{Carries, column, carries, column-there, times-two, named-there}
 
 octets-sets : (times set : ℕ) → set < 65536 → Octets (sets times set)
@@ -46,7 +46,7 @@ column-short configurations = omega arith
 
 -- what `valid` says, one by one
 pub record Validity (r : Record) : Type 0 where
-  pub known : assigned (r .id) ≡ true
+  pub idAssigned : assigned (r .id) ≡ true
   pub set : r .set < setLimit
   pub cells : (k : Column) (t : Technology) → validFields (cell k t) (names (setIn (r .id) (r .set) k) t) (ofRecord r k t) ≡ true
 
@@ -56,16 +56,16 @@ passes r e =
     let a = and-true (assigned (r .id)) _ e in
     let b = and-true (ltb (r .set) setLimit) _ (a .1) in
     record {
-      known = a .0;
+      idAssigned = a .0;
       set = ltb-true _ _ (b .0);
       cells = λ k t. every-at (λ t. validFields (cell k t) (names (setIn (r .id) (r .set) k) t) (ofRecord r k t)) t (every-at (λ k. validColumn k (setIn (r .id) (r .set) k) (columnIn r k)) k (b .1) (a-column k)) (a-technology t);
     }
 
-pub passed : (r : Record) → Validity r → valid r ≡ true
+pub is-valid : (r : Record) → Validity r → valid r ≡ true
 unfolding valid validColumn
-passed r p =
+is-valid r p =
     rw (
-      p .known,
+      p .idAssigned,
       lt-ltb (r .set) setLimit (p .set),
       every-all (λ k. validColumn k (setIn (r .id) (r .set) k) (columnIn r k)) columns (λ k. every-all (λ t. validFields (cell k t) (names (setIn (r .id) (r .set) k) t) (ofRecord r k t)) technologies (p .cells k)),
     )
@@ -76,13 +76,13 @@ module _ (r : Record) (T : TypedRecord r) (ok : valid r ≡ true) where
     fields-ok : (allowed (cell k t) (ofRecord r k t) ≡ true) × (cleared (cell k t) (ofRecord r k t) ≡ true)
     fields-ok = let e : validFields (cell k t) true (ofRecord r k t) ≡ true = rw (y, n) at (passes r ok .cells k t) in and-true (allowed (cell k t) (ofRecord r k t)) (cleared (cell k t) (ofRecord r k t)) e
 
-    its-back : (value (cell k t) 2 (Block k (ofRecord r k) (r .set) t) ≡ ofRecord r k t) × (need (cell k t) 2 (Block k (ofRecord r k) (r .set) t) ≡ length (Block k (ofRecord r k) (r .set) t))
+    its-back : (value (cell k t) 2 (BlockOf k (ofRecord r k) (r .set) t) ≡ ofRecord r k t) × (need (cell k t) 2 (BlockOf k (ofRecord r k) (r .set) t) ≡ length (BlockOf k (ofRecord r k) (r .set) t))
     its-back = block-back k (ofRecord r k) (r .set) (T .cells k) t (fields-ok .0) (fields-ok .1)
 
-    its-whole : Whole (layouts k) (r .set) (Block k (ofRecord r k) (r .set) t)
+    its-whole : Whole (layouts k) (r .set) (BlockOf k (ofRecord r k) (r .set) t)
     its-whole = record { named = n; size = omega arith; enough = rw (layout-of k t) (omega (arith, its-back .1)); fields = rw (layout-of k t, its-back .0) (fields-ok .0) }
 
-    its-exact : length (Block k (ofRecord r k) (r .set) t) ≡ need (layouts k (technologyId t)) 2 (Block k (ofRecord r k) (r .set) t)
+    its-exact : length (BlockOf k (ofRecord r k) (r .set) t) ≡ need (layouts k (technologyId t)) 2 (BlockOf k (ofRecord r k) (r .set) t)
     its-exact = rw (layout-of k t) (sym (its-back .1))
 
   -- what the blocks that are written keep
@@ -109,8 +109,8 @@ module _ (r : Record) (T : TypedRecord r) (ok : valid r ≡ true) where
         octets = octets-rising k v (r .set) (T .cells k) technologies;
       }
 
-  blocks-good : Good (row (r .id) .blocks)
-  blocks-good = good (row (r .id) .blocks) (carries (r .id))
+  blocks-good : Good (row (r .id) .column)
+  blocks-good = good (row (r .id) .column) (carries (r .id))
 
   -- every field of the record is read back, or is zero
   fields-back : (k : Column) (t : Technology) → ofRecord r k t ≡ cond (names (setIn (r .id) (r .set) k) t) (fieldsIn (cell k t) (technologyId t) (blocksOf r)) (zeroes (cell k t))
@@ -146,7 +146,7 @@ module _ (r : Record) (T : TypedRecord r) (ok : valid r ≡ true) where
     rest = [];
     octets = ap (λ (l : List ℕ). 1 ∷ (r .id ∷ (sets (row (r .id) .times) (r .set) ++ l))) (sym (append-nil (flatten (blocksOf r))));
     limit = normal-fits;
-    known = passes r ok .known;
+    idAssigned = passes r ok .idAssigned;
     readable = inl refl;
     count = blocks-good .count;
     whole = blocks-good .whole;

@@ -46,18 +46,18 @@ total k [] = 0
 total k (t ∷ others) = 2 + most (cell k t) + total k others
 
 module _ (k : Column) (v : (t : Technology) → Values (cell k t)) (set : ℕ) where
-  abbrev pub Block : Technology → List ℕ
-  Block t = block (cell k t) (technologyId t) (v t)
+  abbrev pub BlockOf : Technology → List ℕ
+  BlockOf t = block (cell k t) (technologyId t) (v t)
 
   abbrev Rest : List Technology → List (List ℕ)
   Rest others = rising k v set others
 
   -- of each block that is written
-  pub rising-each : (P : List ℕ → Type 0) (ts : List Technology) → ((t : Technology) → Among t ts → names set t ≡ true → P (Block t)) → Each P (Rest ts)
+  pub rising-each : (P : List ℕ → Type 0) (ts : List Technology) → ((t : Technology) → Among t ts → names set t ≡ true → P (BlockOf t)) → Each P (Rest ts)
   rising-each P [] h = tt
   rising-each P (t ∷ others) h = go (names set t) (h t first) (rising-each P others (λ u a. h u (further a)))
     where
-      go : (b : Bool) → (b ≡ true → P (Block t)) → Each P (Rest others) → Each P (cond b (Block t ∷ Rest others) (Rest others))
+      go : (b : Bool) → (b ≡ true → P (BlockOf t)) → Each P (Rest others) → Each P (cond b (BlockOf t ∷ Rest others) (Rest others))
       go true p r = (p refl, r)
       go false p r = r
 
@@ -65,7 +65,7 @@ module _ (k : Column) (v : (t : Technology) → Values (cell k t)) (set : ℕ) w
   rising-rises [] a = tt
   rising-rises (t ∷ others) a = go (names set t) (rising-rises others (a .1)) (rising-each (λ c. technologyId t < getD c 0 0) others (λ u m e. each-at (λ w. technologyId t < technologyId w) u (a .0) m))
     where
-      go : (b : Bool) → Rising (Rest others) → Each (λ c. technologyId t < getD c 0 0) (Rest others) → Rising (cond b (Block t ∷ Rest others) (Rest others))
+      go : (b : Bool) → Rising (Rest others) → Each (λ c. technologyId t < getD c 0 0) (Rest others) → Rising (cond b (BlockOf t ∷ Rest others) (Rest others))
       go true r e = (e, r)
       go false r e = r
 
@@ -77,7 +77,7 @@ module _ (k : Column) (v : (t : Technology) → Values (cell k t)) (set : ℕ) w
   rising-count [] = refl
   rising-count (t ∷ others) = go (names set t) (rising-count others)
     where
-      go : (b : Bool) → length (Rest others) ≡ tally others → length (cond b (Block t ∷ Rest others) (Rest others)) ≡ one b + tally others
+      go : (b : Bool) → length (Rest others) ≡ tally others → length (cond b (BlockOf t ∷ Rest others) (Rest others)) ≡ one b + tally others
       go true e = omega arith
       go false e = omega arith
 
@@ -86,23 +86,23 @@ module _ (k : Column) (v : (t : Technology) → Values (cell k t)) (set : ℕ) w
   rising-apart L id [] h = refl
   rising-apart L id (t ∷ others) h = go (names set t) (rising-apart L id others (h .1))
     where
-      go : (b : Bool) → fieldsIn L id (Rest others) ≡ zeroes L → fieldsIn L id (cond b (Block t ∷ Rest others) (Rest others)) ≡ zeroes L
+      go : (b : Bool) → fieldsIn L id (Rest others) ≡ zeroes L → fieldsIn L id (cond b (BlockOf t ∷ Rest others) (Rest others)) ≡ zeroes L
       go true e = rw (ne-eqb (technologyId t) id (λ d. omega (arith, h .0))) e
       go false e = e
 
   abbrev Found : Technology → List (List ℕ) → Type 0
-  Found t blocks = fieldsIn (cell k t) (technologyId t) blocks ≡ cond (names set t) (value (cell k t) 2 (Block t)) (zeroes (cell k t))
+  Found t blocks = fieldsIn (cell k t) (technologyId t) blocks ≡ cond (names set t) (value (cell k t) 2 (BlockOf t)) (zeroes (cell k t))
 
   pub rising-fields : (t : Technology) {ts : List Technology} → Ascending ts → Among t ts → Found t (Rest ts)
   rising-fields t a (first {l = others}) = go (names set t) (rising-apart (cell k t) (technologyId t) others (a .0))
     where
       go : (b : Bool) → fieldsIn (cell k t) (technologyId t) (Rest others) ≡ zeroes (cell k t)
-          → fieldsIn (cell k t) (technologyId t) (cond b (Block t ∷ Rest others) (Rest others)) ≡ cond b (value (cell k t) 2 (Block t)) (zeroes (cell k t))
+          → fieldsIn (cell k t) (technologyId t) (cond b (BlockOf t ∷ Rest others) (Rest others)) ≡ cond b (value (cell k t) 2 (BlockOf t)) (zeroes (cell k t))
       go true e = rw (eq-eqb (technologyId t) (technologyId t) refl)
       go false e = e
   rising-fields t a (further {y = u} {l = others} m) = go (names set u) (ne-eqb (technologyId u) (technologyId t) (λ e. omega (arith, each-at (λ w. technologyId u < technologyId w) t (a .0) m))) (rising-fields t (a .1) m)
     where
-      go : (b : Bool) → eqb (technologyId u) (technologyId t) ≡ false → Found t (Rest others) → Found t (cond b (Block u ∷ Rest others) (Rest others))
+      go : (b : Bool) → eqb (technologyId u) (technologyId t) ≡ false → Found t (Rest others) → Found t (cond b (BlockOf u ∷ Rest others) (Rest others))
       go true d e = rw d e
       go false d e = e
 
@@ -110,7 +110,7 @@ module _ (k : Column) (v : (t : Technology) → Values (cell k t)) (set : ℕ) w
   pub rising-named : (id : ℕ) (ts : List Technology) → Has id (Rest ts) → (u : Technology) × ((technologyId u ≡ id) × (names set u ≡ true))
   rising-named id (t ∷ others) h = go (names set t) refl h (rising-named id others)
     where
-      go : (b : Bool) → names set t ≡ b → Has id (cond b (Block t ∷ Rest others) (Rest others)) → (Has id (Rest others) → (u : Technology) × ((technologyId u ≡ id) × (names set u ≡ true))) → (u : Technology) × ((technologyId u ≡ id) × (names set u ≡ true))
+      go : (b : Bool) → names set t ≡ b → Has id (cond b (BlockOf t ∷ Rest others) (Rest others)) → (Has id (Rest others) → (u : Technology) × ((technologyId u ≡ id) × (names set u ≡ true))) → (u : Technology) × ((technologyId u ≡ id) × (names set u ≡ true))
       go true e (this q) k = (t, (q, e))
       go true e (later h) k = k h
       go false e h k = k h
@@ -119,7 +119,7 @@ module _ (k : Column) (v : (t : Technology) → Values (cell k t)) (set : ℕ) w
   named-rising t (first {l = others}) n = rw n (this refl)
   named-rising t (further {y = u} {l = others} m) n = go (names set u) (named-rising t m n)
     where
-      go : (b : Bool) → Has (technologyId t) (Rest others) → Has (technologyId t) (cond b (Block u ∷ Rest others) (Rest others))
+      go : (b : Bool) → Has (technologyId t) (Rest others) → Has (technologyId t) (cond b (BlockOf u ∷ Rest others) (Rest others))
       go true h = later h
       go false h = h
 
@@ -130,7 +130,7 @@ module _ (k : Column) (v : (t : Technology) → Values (cell k t)) (set : ℕ) w
     rising-size (t ∷ others) = go (names set t) (rising-size others) (write-most (cell k t) (v t) (T t))
       where
         go : (b : Bool) → length (flatten (Rest others)) ≤ total k others → length (write (cell k t) (v t)) ≤ most (cell k t)
-            → length (flatten (cond b (Block t ∷ Rest others) (Rest others))) ≤ 2 + most (cell k t) + total k others
+            → length (flatten (cond b (BlockOf t ∷ Rest others) (Rest others))) ≤ 2 + most (cell k t) + total k others
         go true h w = simp length-append (omega arith)
         go false h w = omega arith
 
@@ -142,18 +142,18 @@ module _ (k : Column) (v : (t : Technology) → Values (cell k t)) (set : ℕ) w
         W : List ℕ
         W = write (cell k t) (v t)
 
-        go : (b : Bool) → Octets (flatten (Rest others)) → Octets (flatten (cond b (Block t ∷ Rest others) (Rest others)))
+        go : (b : Bool) → Octets (flatten (Rest others)) → Octets (flatten (cond b (BlockOf t ∷ Rest others) (Rest others)))
         go true o =
-            octets-append (Block t) (flatten (Rest others))
+            octets-append (BlockOf t) (flatten (Rest others))
             (octets-cons (technologyId t) ((2 + length W) ∷ W) (omega (arith, technology-below t)) (octets-cons (2 + length W) W (omega (arith, write-most (cell k t) (v t) (T t), cell-short k t)) (octets-write (cell k t) (v t) (T t))))
             o
         go false o = o
 
     -- what is written of a block is read back
-    pub block-back : (t : Technology) → allowed (cell k t) (v t) ≡ true → cleared (cell k t) (v t) ≡ true → (value (cell k t) 2 (Block t) ≡ v t) × (need (cell k t) 2 (Block t) ≡ length (Block t))
+    pub block-back : (t : Technology) → allowed (cell k t) (v t) ≡ true → cleared (cell k t) (v t) ≡ true → (value (cell k t) 2 (BlockOf t) ≡ v t) × (need (cell k t) 2 (BlockOf t) ≡ length (BlockOf t))
     block-back t a c =
         let L = cell k t in
-        let b = back L (cell-fits k t) 2 (v t) (Block t) [] (omega arith) (T t) a c (sym (append-nil (write L (v t)))) in
+        let b = back L (cell-fits k t) 2 (v t) (BlockOf t) [] (omega arith) (T t) a c (sym (append-nil (write L (v t)))) in
         (b .0, b .1 ∙ omega arith)
 
 -- the blocks of a Capability Response are those of the technologies in its set

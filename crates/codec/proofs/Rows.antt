@@ -1,16 +1,18 @@
 -- What every row of the table keeps.
-use Prim.Native.Nat.{ℕ, _/_, _%_, _≤_}
+use Prim.Native.Nat.{ℕ, _≤_}
 use native.Mathlib.Omega.{arith}
-use mathlib.Core.Path.{_≡_, sym, _∙_}
-use mathlib.Core.Option.{Option, none, some}
+use mathlib.Core.Path.{_≡_, sym, ap, _∙_}
+use mathlib.Core.Option.{Option, none, some, Option·none-ne-some}
 use mathlib.Core.Bool.{Bool, true, false, cond, true≢false}
 use lib.Dec.{eqb}
-use borrow.Author.Tests.{eqb-true}
-use Rattle.codec.specs.Technology.{Technology, uwb, cs, nan, rssi, technologyId, known, names}
+use borrow.Author.Tests.{eqb-true, ne-eqb}
+use Rattle.codec.specs.Technology.{Technology, technologyId, known, names}
 use Rattle.codec.specs.Blocks.{Column, capabilities, configurations}
-use Rattle.codec.specs.Table.{messageOf, row, setIn}
+use Rattle.codec.specs.Table.{messageOf, Row, row, setIn}
+use Rattle.codec.specs.Inner.Places.{setAlone}
 use Rattle.codec.proofs.Outcomes.{by-bool}
-use Rattle.codec.proofs.Bits.{bit-above}
+use Rattle.codec.proofs.Cells.{technology-below}
+use Rattle.codec.proofs.Bits.{bit-above, bit-low}
 
 pub times-one : (id : ℕ) → 1 ≤ row id .times
 times-one id = go (eqb id 2)
@@ -31,7 +33,7 @@ pub data Carries (id : ℕ) : Option Column → Type 0 where
   nothing : ((k : Column) → eqb id (messageOf k) ≡ false) → Carries id none
   column : (k : Column) → id ≡ messageOf k → Carries id (some k)
 
-pub carries : (id : ℕ) → Carries id (row id .blocks)
+pub carries : (id : ℕ) → Carries id (row id .column)
 carries id =
     by-bool (eqb id 1)
     (λ y. rw y (column capabilities (eqb-true id 1 y)))
@@ -41,9 +43,18 @@ carries id =
     neither n m capabilities = n
     neither n m configurations = m
 
-pub column-there : (id : ℕ) (k : Column) → eqb id (messageOf k) ≡ true → row id .blocks ≡ some k
+pub column-there : (id : ℕ) (k : Column) → eqb id (messageOf k) ≡ true → row id .column ≡ some k
 column-there id capabilities e = rw e
 column-there id configurations e = rw (eqb-true id 2 e)
+
+-- a message that carries a set alone is no column's
+pub alone-not : (id : ℕ) → row id ≡ setAlone → (k : Column) → eqb id (messageOf k) ≡ false
+alone-not id e k = by-bool (eqb id (messageOf k))
+    (λ y. absurd (Option·none-ne-some k (sym (ap (λ (R : Row). R .column) e) ∙ column-there id k y)))
+    (λ n. n)
+
+pub other-alone : (id : ℕ) → (id ≡ 1 → ⊥) → (id ≡ 2 → ⊥) → row id ≡ setAlone
+other-alone id n m = rw (ne-eqb id 1 n, ne-eqb id 2 m)
 
 -- ---- the technologies whose blocks a message has in a column
 
@@ -57,11 +68,5 @@ named-there id set k t h c =
     (λ n. absurd (true≢false (sym (rw n at h) ∙ none-named t)))
 
 -- reserved bits change nothing
-low-bit : (s : ℕ) (t : Technology) → names (known s) t ≡ names s t
-low-bit s uwb = let q : s % 16 / 1 % 2 ≡ s / 1 % 2 = omega arith in rw q
-low-bit s cs = let q : s % 16 / 2 % 2 ≡ s / 2 % 2 = omega arith in rw q
-low-bit s nan = let q : s % 16 / 4 % 2 ≡ s / 4 % 2 = omega arith in rw q
-low-bit s rssi = let q : s % 16 / 8 % 2 ≡ s / 8 % 2 = omega arith in rw q
-
 pub known-named : (id set : ℕ) (k : Column) (t : Technology) → names (setIn id (known set) k) t ≡ names (setIn id set k) t
-known-named id set k t = by-bool (eqb id (messageOf k)) (λ y. rw y (low-bit set t)) (λ n. rw n)
+known-named id set k t = by-bool (eqb id (messageOf k)) (λ y. rw y (bit-low 4 set (technologyId t) (technology-below t))) (λ n. rw n)

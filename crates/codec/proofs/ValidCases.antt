@@ -3,16 +3,16 @@ use Prim.Native.Nat.{ℕ}
 use mathlib.Core.Path.{_≡_, refl, sym, ap, fun-ext, _∙_}
 use mathlib.Core.Bool.{Bool, true, false, cond, not, _&&_, _||_, and-true, and-false, and-assoc}
 use lib.Dec.{ltb}
-use native.Mathlib.Omega.{arith}
 use borrow.Author.Tests.{ne-eqb}
 use Rattle.codec.specs.Octets.{allZero}
 use Rattle.codec.specs.Technology.{Technology, technologies, setLimit, names}
 use Rattle.codec.specs.Layout.{Layout, Values, zeroes, zeroed}
 use Rattle.codec.specs.Blocks.{Column, capabilities, configurations, cell}
-use Rattle.codec.specs.Table.{assigned}
-use Rattle.codec.specs.Records.{blank, fields, response, only, settings, withoutBlocks, messageId, setRecord}
+use Rattle.codec.specs.Table.{assigned, row}
+use Rattle.codec.specs.Records.{blank, fields, response, only, settingsRecord, withoutBlocks, messageId, setRecord}
 use Rattle.codec.specs.Valid.{validFields, every, validColumn, valid}
 use Rattle.codec.specs.Inner.Puts.{restZero}
+use Rattle.codec.specs.Inner.Places.{setAlone}
 use Rattle.codec.specs.declared.records.Capability.{Capability}
 use Rattle.codec.specs.declared.records.Configuration.{Configuration}
 use Rattle.codec.specs.declared.records.Record.{Record}
@@ -20,6 +20,7 @@ use Rattle.codec.specs.declared.records.SetMessage.{SetMessage}
 use Rattle.codec.proofs.Fields.{zeroed-zeroes}
 use Rattle.codec.proofs.Every.{every-both}
 use Rattle.codec.proofs.Cells.{fields-make}
+use Rattle.codec.proofs.Rows.{alone-not}
 
 -- nothing is present, and all fields are zero
 blank-valid : (k : Column) → validColumn k 0 (blank k) ≡ true
@@ -46,23 +47,23 @@ only-valid set c = response-valid set (only set c) ∙ ap (λ (f : Technology �
     one : (t : Technology) → validFields (cell capabilities t) (names set t) (fields capabilities (only set c) t) ≡ usedFields set c t
     one t = rw (fields-make capabilities (λ t. cond (names set t) (fields capabilities c t) (zeroes (cell capabilities t))) t) (go (cell capabilities t) (names set t) (fields capabilities c t))
 
-pub settings-valid : (set : ℕ) (c : Configuration) → valid (settings set c) ≡ (ltb set setLimit && validColumn configurations set c)
+pub settings-valid : (set : ℕ) (c : Configuration) → valid (settingsRecord set c) ≡ (ltb set setLimit && validColumn configurations set c)
 unfolding valid assigned
 settings-valid set c = rw (blank-valid capabilities, and-true (validColumn configurations set c))
 
-pub bare-valid : (id set : ℕ) → assigned id ≡ true → (id ≡ 1 → ⊥) → (id ≡ 2 → ⊥) → valid (withoutBlocks id set) ≡ ltb set setLimit
+pub bare-valid : (id set : ℕ) → assigned id ≡ true → row id ≡ setAlone → valid (withoutBlocks id set) ≡ ltb set setLimit
 unfolding valid
-bare-valid id set a n m = rw (a, ne-eqb id 1 n, ne-eqb id 2 m, blank-valid capabilities, blank-valid configurations, and-true (ltb set setLimit))
+bare-valid id set a e = rw (a, alone-not id e capabilities, alone-not id e configurations, blank-valid capabilities, blank-valid configurations, and-true (ltb set setLimit))
 
-pub set-assigned : (message : SetMessage) → (assigned (messageId message) ≡ true) × (messageId message ≡ 1 → ⊥) × (messageId message ≡ 2 → ⊥)
+pub set-assigned : (message : SetMessage) → (assigned (messageId message) ≡ true) × (row (messageId message) ≡ setAlone)
 unfolding assigned
-set-assigned SetMessage.Request = (refl, λ e. omega arith, λ e. omega arith)
-set-assigned SetMessage.ConfigurationResponse = (refl, λ e. omega arith, λ e. omega arith)
-set-assigned SetMessage.Stop = (refl, λ e. omega arith, λ e. omega arith)
-set-assigned SetMessage.StopResponse = (refl, λ e. omega arith, λ e. omega arith)
+set-assigned SetMessage.Request = (refl, refl)
+set-assigned SetMessage.ConfigurationResponse = (refl, refl)
+set-assigned SetMessage.Stop = (refl, refl)
+set-assigned SetMessage.StopResponse = (refl, refl)
 
 pub set-valid : (message : SetMessage) (set : ℕ) → valid (setRecord message set) ≡ ltb set setLimit
-set-valid message set = let a = set-assigned message in bare-valid (messageId message) set (a .0) (a .1) (a .2)
+set-valid message set = let a = set-assigned message in bare-valid (messageId message) set (a .0) (a .1)
 
 -- ---- a record's validity, with what its message does not use told apart
 
@@ -100,13 +101,13 @@ module _ (r : Record) where
     capability-used e = rw (ne-eqb (r .id) 1 n, e, and-false (ltb (r .set) setLimit)) (and-false (assigned (r .id)))
 
     module _ (z : validColumn capabilities 0 (r .capability) ≡ true) where
-      pub settings-of : r .id ≡ 2 → valid r ≡ valid (settings (r .set) (r .configuration))
+      pub settings-of : r .id ≡ 2 → valid r ≡ valid (settingsRecord (r .set) (r .configuration))
       unfolding valid assigned
       settings-of h = rw (h, z, blank-valid capabilities)
 
-      pub bare-of : (r .id ≡ 2 → ⊥) → valid r ≡ ((assigned (r .id) && validColumn configurations 0 (r .configuration)) && ltb (r .set) setLimit)
+      pub bare-of : row (r .id) ≡ setAlone → valid r ≡ ((assigned (r .id) && validColumn configurations 0 (r .configuration)) && ltb (r .set) setLimit)
       unfolding valid
-      bare-of m = rw (ne-eqb (r .id) 1 n, ne-eqb (r .id) 2 m, z, and-true (validColumn configurations 0 (r .configuration))) (go (assigned (r .id)) (ltb (r .set) setLimit) _)
+      bare-of m = rw (ne-eqb (r .id) 1 n, alone-not (r .id) m configurations, z, and-true (validColumn configurations 0 (r .configuration))) (go (assigned (r .id)) (ltb (r .set) setLimit) _)
         where
           go : (a l v : Bool) → (a && (l && v)) ≡ ((a && v) && l)
           go false l v = refl
@@ -115,5 +116,5 @@ module _ (r : Record) where
           go true true false = refl
           go true true true = refl
 
-      pub configuration-used : (r .id ≡ 2 → ⊥) → (assigned (r .id) && validColumn configurations 0 (r .configuration)) ≡ false → valid r ≡ false
+      pub configuration-used : row (r .id) ≡ setAlone → (assigned (r .id) && validColumn configurations 0 (r .configuration)) ≡ false → valid r ≡ false
       configuration-used m e = bare-of m ∙ rw e

@@ -4,17 +4,17 @@ use native.Mathlib.Omega.{arith}
 use native.Mathlib.Numerals.{sub-one}
 use native.Mathlib.Nat.{add-zero}
 use mathlib.Core.Path.{_≡_, refl, sym, ap, _∙_}
-use mathlib.Core.Bool.{Bool, true, false, not, _&&_, _||_}
+use mathlib.Core.Bool.{Bool, true, false, not, _&&_, _||_, and-true}
 use mathlib.Core.List.{List, []}
 use lib.Dec.{leb, eqb}
 use lib.ListN.{length, getD, drop, set}
 use lib.Seq.{getD-take, getD-drop, getD-set-same}
 use borrow.Author.Tests.{le-leb, lt-leb, leb-true, leb-false}
-use Rattle.codec.specs.Refusal.{Checked, refuse, accept, demand, andThen, numberIn, endsEarly, wrongBlock, blockTooSmall}
+use Rattle.codec.specs.Refusal.{Checked, refuse, accept, demand, andThen, endsEarly, wrongBlock, blockTooSmall}
 use Rattle.codec.specs.Layout.{Layout, least, fault}
 use Rattle.codec.specs.Technology.{bit}
 use Rattle.codec.specs.Message.{blockAt, noId, also, blockFault, Walked, prepend, walk}
-use Rattle.codec.specs.Inner.Places.{sizeFault, fieldsFault, awaitedFault, Awaits, note, noted, Finds}
+use Rattle.codec.specs.Inner.Places.{numberIn, sizeFault, fieldsFault, awaitedFault, Awaits, note, noted, Finds}
 use Rattle.codec.proofs.Laws.{part-length}
 use Rattle.codec.proofs.Outcomes.{by-bool, by-number, demanded, chained}
 use Rattle.codec.proofs.Layouts.{least-from}
@@ -47,14 +47,14 @@ module _ (layouts : ℕ → Layout) (m : List ℕ) (at : ℕ) where
     pub enough : least layoutAt 2 ≤ getD m (at + 1) 0
     pub whole : getD m (at + 1) 0 ≤ length m - at
 
-  pub fits : sizeAt ≡ ok → Fits
-  fits a =
+  pub size-fits : sizeAt ≡ ok → Fits
+  size-fits a =
       demanded (leb (least layoutAt 2) (getD m (at + 1) 0)) blockTooSmall _ tt a λ y₁ e₁.
       demanded (leb (getD m (at + 1) 0) (length m - at)) endsEarly _ tt e₁ λ y₂ e₂.
       record { accepted = a; enough = leb-true _ _ y₁; whole = leb-true _ _ y₂ }
 
   pub fits-if : {f : ℕ} → f ≡ numberIn sizeAt → f ≡ 0 → Fits
-  fits-if e z = by-number sizeAt (sym e ∙ z) λ u a. fits a
+  fits-if e z = by-number sizeAt (sym e ∙ z) λ u a. size-fits a
 
   pub fields-stop : {f : ℕ} → f ≡ numberIn sizeAt → (f ≡ 0 → ⊥) → f ≡ numberIn (fieldsFault layouts m at)
   fields-stop {f} e h = go sizeAt e
@@ -90,7 +90,7 @@ module _ (layouts : ℕ → Layout) (m : List ℕ) (awaited at : ℕ) where
       demanded (bit awaited (getD m at 0)) wrongBlock _ tt e₁ λ y₂ e₂.
       chained (sizeAt layouts m at) _ tt e₂ λ v e₃ e₄.
       let two = leb-true _ _ y₁ in
-      record { two = two; comes = y₂; whole = omega (arith, two, fits layouts m at e₃ .whole) }
+      record { two = two; comes = y₂; whole = omega (arith, two, size-fits layouts m at e₃ .whole) }
 
   -- the fault of a block does not depend on how the IDs that came are kept
   pub awaited-block : (set : ℕ) (came : ℕ → Bool) → Awaits set came awaited → awaitedFault layouts m awaited at ≡ blockFault layouts set m came at
@@ -106,11 +106,7 @@ module _ (layouts : ℕ → Layout) (m : List ℕ) (awaited at : ℕ) where
 
 -- before the first block all IDs in the set are awaited
 pub awaits-all : (set : ℕ) → Awaits set noId set
-awaits-all set id = go (bit set id)
-  where
-    go : (b : Bool) → b ≡ (b && true)
-    go true = refl
-    go false = refl
+awaits-all set id = sym (and-true (bit set id))
 
 -- and past a block all but its ID
 pub awaits-next : (set : ℕ) (came : ℕ → Bool) (new awaited rest : ℕ) → Awaits set came awaited → ((id : ℕ) → bit rest id ≡ (bit awaited id && not (eqb id new))) → Awaits set (also new came) rest

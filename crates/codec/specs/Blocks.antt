@@ -1,10 +1,10 @@
--- The blocks: 01's table, a row for each technology, in the table's order and by its names, with the octets of each field.
+-- The blocks: 01's table, column by column, by its names, with the octets of each field.
 use Prim.Native.Nat.{ℕ}
 use mathlib.Core.List.{List, [], _∷_}
 use mathlib.Core.Bool.{cond}
 use lib.Dec.{eqb}
 use Rattle.codec.specs.Technology.{Technology, uwb, cs, nan, rssi, technologyId, technologies}
-use Rattle.codec.specs.Layout.{Test, any, oneOf, between, free, letters, number, octets, counted, Layout}
+use Rattle.codec.specs.Layout.{Test, Spelling, any, oneOf, between, free, letters, number, octets, counted, Layout}
 
 -- ---- what both columns allow
 
@@ -16,6 +16,14 @@ slot = between 1 2
 
 abbrev pub periodic : Test
 periodic = between 0 1
+
+-- ---- what one field allows that the code tests by a function of its own
+
+abbrev pub keyLength : Test
+keyLength = oneOf (8 ∷ 16 ∷ 32 ∷ [])
+
+abbrev pub country : Spelling
+country = letters
 
 -- ---- capability: message 1. 003 decides that these parts belong to the Response and not to the Request.
 
@@ -52,7 +60,7 @@ nanCapability =
 -- the fields after the key
 abbrev pub uwbAfterKey : Layout
 uwbAfterKey =
-    octets "country" 2 letters  -- 2 octets
+    octets "country" 2 country  -- 2 octets
     ∷ number "role" 1 (between 1 2)  -- 1 octet
     ∷ number "mode" 1 (between 1 2)  -- 1 octet
     ∷ []
@@ -67,7 +75,7 @@ uwbConfiguration =
     ∷ number "preamble index" 1 any  -- 10
     ∷ number "interval" 2 interval  -- 11-12, ms
     ∷ number "slot" 1 slot  -- 13, ms
-    ∷ counted "key length" "key" (oneOf (8 ∷ 16 ∷ 32 ∷ [])) 32  -- 14, and k octets
+    ∷ counted "key length" "key" keyLength 32  -- 14, and k octets
     ∷ uwbAfterKey
 
 -- Needs 9.

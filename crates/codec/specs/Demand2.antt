@@ -18,7 +18,7 @@ use Rattle.codec.specs.declared.records.Written.{Written}
 
 -- a call wrote the normal form of its record, and returned its length; the octets are in normal form
 pub record WroteNormal (r : Record) (w : Written) (e : List ℕ) : Type 0 where
-  pub accepted : w .refusal ≡ 0
+  pub number : w .refusal ≡ 0
   pub size : w .length ≡ length (normal r)
   pub octets : octetsWritten w e ≡ normal r
   pub form : NormalForm (normal r)

@@ -28,11 +28,11 @@ idOf m = getD m 1 0
 abbrev pub setOf : List ℕ → ℕ
 setOf m = ofLE 2 2 m
 
--- compared on all 16 bits
+-- each further one is the first, on all 16 bits
 abbrev pub setsAgree : ℕ → List ℕ → Bool
 setsAgree zero m = true
 setsAgree (suc zero) m = true
-setsAgree (suc (suc n)) m = eqb (ofLE 2 2 m) (ofLE 2 4 m)
+setsAgree (suc (suc n)) m = setsAgree (suc n) m && eqb (setOf m) (ofLE 2 (2 + 2 * suc n) m)
 
 -- the place after the sets, where the blocks start
 abbrev pub blocksAt : ℕ → ℕ
@@ -101,7 +101,7 @@ unfoldable pub afterHead : Row → List ℕ → Checked (List (List ℕ))
 afterHead R m =
     demand (leb (blocksAt (R .times)) (length m)) endsEarly
     (demand (setsAgree (R .times) m) setsDiffer
-    (blocksFrom (layoutsOf (R .blocks)) m (blockCount (R .blocks) (setOf m)) (blocksAt (R .times))))
+    (blocksFrom (layoutsOf (R .column)) m (blockCount (R .column) (setOf m)) (blocksAt (R .times))))
 
 -- the version, then what follows the head
 unfoldable pub body : List ℕ → Checked (List (List ℕ))
@@ -121,7 +121,7 @@ abbrev pub fieldsIn : (L : Layout) → ℕ → List (List ℕ) → Values L
 fieldsIn L id [] = zeroes L
 fieldsIn L id (b ∷ blocks) = cond (eqb (getD b 0 0) id) (value L 2 b) (fieldsIn L id blocks)
 
--- a technology that the message has no block of has zero fields
+-- zero in the other column, and for a technology that the set does not name; of one that it names, an accepted message has a block
 abbrev pub recordOf : (id set : ℕ) → List (List ℕ) → Record
 recordOf id set blocks = toRecord id (known set) (λ k t. cond (names (setIn id set k) t) (fieldsIn (cell k t) (technologyId t) blocks) (zeroes (cell k t)))
 

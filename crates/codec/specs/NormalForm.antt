@@ -30,7 +30,7 @@ columnBlocks none r = []
 columnBlocks (some k) r = rising k (ofRecord r k) (r .set) technologies
 
 abbrev pub blocksOf : Record → List (List ℕ)
-blocksOf r = columnBlocks (row (r .id) .blocks) r
+blocksOf r = columnBlocks (row (r .id) .column) r
 
 unfoldable pub normal : Record → List ℕ
 normal r = 1 ∷ (r .id ∷ (sets (row (r .id) .times) (r .set) ++ flatten (blocksOf r)))
@@ -48,4 +48,4 @@ pub record NormalForm (m : List ℕ) : Type 0 where
   pub first : formed .version ≡ 1
   pub known : formed .set < setLimit
   pub rising : Rising (formed .blocks)
-  pub exact : Each (λ b. length b ≡ need (layoutsOf (row (formed .id) .blocks) (getD b 0 0)) 2 b) (formed .blocks)
+  pub exact : Each (λ b. length b ≡ need (layoutsOf (row (formed .id) .column) (getD b 0 0)) 2 b) (formed .blocks)

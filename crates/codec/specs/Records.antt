@@ -4,6 +4,7 @@ use mathlib.Core.Bool.{cond}
 use Rattle.codec.specs.Technology.{Technology, uwb, cs, nan, rssi, names}
 use Rattle.codec.specs.Layout.{Values, zeroes}
 use Rattle.codec.specs.Blocks.{uwbCapability, csCapability, nanCapability, uwbConfiguration, csConfiguration, nanConfiguration, rssiBlock, Column, capabilities, configurations, cell}
+use Rattle.codec.specs.Table.{messageOf}
 use Rattle.codec.specs.Refusal.{Checked, refuse, accept, numberOf}
 use Rattle.codec.specs.declared.uwb.UwbCapability.{UwbCapability}
 use Rattle.codec.specs.declared.uwb.UwbConfiguration.{UwbConfiguration}
@@ -160,15 +161,15 @@ zeroRecord = withoutBlocks 0 0
 
 -- a Capability Response with these blocks
 abbrev pub response : ℕ → Capability → Record
-response set c = record { id = 1; set = set; capability = c; configuration = blank configurations }
+response set c = record { id = messageOf capabilities; set = set; capability = c; configuration = blank configurations }
 
 -- those that a set names, and all other fields zero
 abbrev pub only : ℕ → Capability → Capability
 only set c = make capabilities (λ t. cond (names set t) (fields capabilities c t) (zeroes (cell capabilities t)))
 
 -- a Configuration with these blocks
-abbrev pub settings : ℕ → Configuration → Record
-settings set c = record { id = 2; set = set; capability = blank capabilities; configuration = c }
+abbrev pub settingsRecord : ℕ → Configuration → Record
+settingsRecord set c = record { id = messageOf configurations; set = set; capability = blank capabilities; configuration = c }
 
 -- a message that carries a set and nothing else
 abbrev pub messageId : SetMessage → ℕ

@@ -59,8 +59,3 @@ demand false x rest = refuse x
 abbrev pub andThen : {A B : Type 0} → Checked A → (A → Checked B) → Checked B
 andThen (refuse x) rest = refuse x
 andThen (accept a) rest = rest a
-
--- the number that the code gives: 0 for no refusal
-abbrev pub numberIn : {A : Type 0} → Checked A → ℕ
-numberIn (refuse x) = numberOf x
-numberIn (accept a) = 0

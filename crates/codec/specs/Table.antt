@@ -30,13 +30,14 @@ abbrev pub columnFor : List Column → ℕ → Option Column
 columnFor [] id = none
 columnFor (k ∷ others) id = cond (eqb id (messageOf k)) (some k) (columnFor others id)
 
--- what follows the head: a set, which a Configuration has twice, and the blocks of a column, or none
+-- what follows the head: a set, which a Configuration has twice, and the blocks of a column, or none. A reserved ID is refused before
+-- its row is asked.
 pub record Row : Type 0 where
   pub times : ℕ
-  pub blocks : Option Column
+  pub column : Option Column
 
 abbrev pub row : ℕ → Row
-row id = record { times = cond (eqb id 2) 2 1; blocks = columnFor columns id }
+row id = record { times = cond (eqb id (messageOf configurations)) 2 1; column = columnFor columns id }
 
 -- as many blocks as the set has one-bits, reserved bits counted
 abbrev pub blockCount : Option Column → ℕ → ℕ

@@ -41,7 +41,7 @@ abbrev pub ofBits : List Bool → ℕ
 ofBits [] = 0
 ofBits (b ∷ bits) = cond b 1 0 + 2 * ofBits bits
 
--- the set that names the technologies of which f is true
+-- the set that names the technologies of which f is true: bit n is that of the n-th, whose ID is n
 abbrev pub naming : (Technology → Bool) → ℕ
 naming f = ofBits (map f technologies)
 

@@ -49,11 +49,11 @@ pub record WellFormed (m : List ℕ) (r : Record) : Type 0 where
   pub octets : m ≡ version ∷ id ∷ (sets (row id .times) set ++ (flatten blocks ++ rest))
   pub limit : length m ≤ messageLimit
   -- the head
-  pub known : assigned id ≡ true
+  pub idAssigned : assigned id ≡ true
   pub readable : (version ≡ 1) ⊎ ((1 < version) × (id < 2))
   -- the blocks, in any order
-  pub count : length blocks ≡ blockCount (row id .blocks) set
-  pub whole : Each (Whole (layoutsOf (row id .blocks)) set) blocks
+  pub count : length blocks ≡ blockCount (row id .column) set
+  pub whole : Each (Whole (layoutsOf (row id .column)) set) blocks
   pub once : Once blocks
   -- the end of the message
   pub ends : version ≡ 1 → rest ≡ []

@@ -10,9 +10,8 @@ use crate::uwb;
 ghost use mathlib.Core.Path.{_≡_};
 ghost use Prim.Native.Nat.{_≤_};
 ghost use lib.ListN.{length};
-ghost use Rattle.codec.specs.Refusal.{numberIn};
 ghost use Rattle.codec.specs.Layout.{least, fault};
-ghost use Rattle.codec.specs.Inner.Places.{layoutsBy};
+ghost use Rattle.codec.specs.Inner.Places.{numberIn, layoutsBy};
 
 // What the first size test of a block is against.
 pub(crate) fn least_size(message: u8, id: u8) -> u8

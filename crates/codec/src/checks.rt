@@ -19,10 +19,9 @@ ghost use mathlib.Core.Bool.{true};
 ghost use Prim.Native.Nat.{_≤_};
 ghost use lib.Count.{ones};
 ghost use lib.ListN.{length};
-ghost use Rattle.codec.specs.Refusal.{numberIn};
 ghost use Rattle.codec.specs.Table.{messageLimit, readable, row};
 ghost use Rattle.codec.specs.Message.{idOf, setOf, endFault, blocksFrom, body, parse, blocksAt};
-ghost use Rattle.codec.specs.Inner.Places.{layoutsBy, setAlone, carriesBlocks, Judged};
+ghost use Rattle.codec.specs.Inner.Places.{numberIn, layoutsBy, setAlone, carriesBlocks, Judged};
 
 // A message has at most so many octets.
 pub const MESSAGE_LIMIT: usize = 256;
@@ -106,7 +105,7 @@ fn configuration_fault(m: &[u8], found: &mut [u16; 5]) -> u8
 // The first fault of a message; for none it is 0, and `found` has the places of the blocks of message 1 or 2.
 pub(crate) fn message_fault(m: &[u8], found: &mut [u16; 5]) -> u8
     requires { ⌜ length (now found) ≡ 5 ⌝ }
-    ensures { λ f. ⌜ Judged (carriesBlocks (row (idOf (now (m .entry))) .blocks)) (parse (now (m .entry))) (blocksAt (row (idOf (now (m .entry))) .times)) (now (found .entry)) f (now (found .exit)) ⌝ }
+    ensures { λ f. ⌜ Judged (carriesBlocks (row (idOf (now (m .entry))) .column)) (parse (now (m .entry))) (blocksAt (row (idOf (now (m .entry))) .times)) (now (found .entry)) f (now (found .exit)) ⌝ }
 {
     if MESSAGE_LIMIT < m.len() {
         return TOO_LONG;

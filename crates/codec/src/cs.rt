@@ -10,13 +10,12 @@ ghost use mathlib.Core.Path.{_≡_};
 ghost use mathlib.Core.Bool.{cond};
 ghost use Prim.Native.Nat.{_+_, _≤_};
 ghost use lib.ListN.{length};
-ghost use Rattle.codec.specs.Refusal.{numberIn};
 ghost use Rattle.codec.specs.Layout.{value, fault};
 ghost use Rattle.codec.specs.Blocks.{csCapability, csConfiguration};
 ghost use Rattle.codec.specs.Records.{toCsCapability, toCsConfiguration, ofCsCapability, ofCsConfiguration};
 ghost use Rattle.codec.specs.Valid.{validFields};
 ghost use Rattle.codec.specs.Inner.Puts.{Put, blockIf};
-ghost use Rattle.codec.specs.Inner.Places.{Roomy};
+ghost use Rattle.codec.specs.Inner.Places.{numberIn, Roomy};
 
 #[repr(C)]
 pub struct CsCapability {

@@ -42,7 +42,7 @@ pub use technology::both_have;
 pub use technology::common;
 pub use technology::has;
 pub use technology::set_if;
-pub use technology::set_of;
+pub use technology::set_naming;
 pub use uwb::Channel;
 pub use uwb::Channels;
 pub use uwb::ConfigId;

@@ -47,8 +47,8 @@ pub fn set_if(on: bool, set: u16) -> u16
     if on { set } else { 0 }
 }
 
-// The set of the technologies of which it is true.
-pub fn set_of(uwb: bool, cs: bool, nan: bool, rssi: bool) -> u16
+// The set of the technologies whose value is true.
+pub fn set_naming(uwb: bool, cs: bool, nan: bool, rssi: bool) -> u16
     ensures { λ r. ⌜ r ≡ ofBits (uwb ∷ cs ∷ nan ∷ rssi ∷ []) ⌝ }
 {
     set_if(uwb, 1) + (set_if(cs, 2) + (set_if(nan, 4) + set_if(rssi, 8)))
@@ -68,5 +68,5 @@ pub fn common(a: u16, b: u16) -> u16
     let uwb = both_have(a, b, UWB);
     let cs = both_have(a, b, CS);
     let nan = both_have(a, b, NAN);
-    set_of(uwb, cs, nan, both_have(a, b, RSSI))
+    set_naming(uwb, cs, nan, both_have(a, b, RSSI))
 }

@@ -16,17 +16,15 @@ use crate::refusal::NOT_ALLOWED;
 use crate::technology::UWB;
 ghost use mathlib.Core.Path.{_≡_};
 ghost use mathlib.Core.Bool.{cond};
-ghost use mathlib.Core.List.{[], _∷_};
 ghost use Prim.Native.Nat.{_+_, _≤_};
 ghost use lib.ListN.{length, drop};
 ghost use Rattle.codec.specs.Octets.{allZero};
-ghost use Rattle.codec.specs.Refusal.{numberIn};
-ghost use Rattle.codec.specs.Layout.{member, inside, alphabetic, test, zeroed, write, value, fault};
-ghost use Rattle.codec.specs.Blocks.{interval, uwbCapability, uwbConfiguration, uwbAfterKey};
+ghost use Rattle.codec.specs.Layout.{spelled, inside, test, zeroed, write, value, fault};
+ghost use Rattle.codec.specs.Blocks.{interval, keyLength, country, country, uwbCapability, uwbConfiguration, uwbAfterKey};
 ghost use Rattle.codec.specs.Records.{toUwbCapability, toUwbConfiguration, ofUwbCapability, ofUwbConfiguration};
 ghost use Rattle.codec.specs.Valid.{validFields};
 ghost use Rattle.codec.specs.Inner.Puts.{Put, blockIf, setOctets, beforeKey, afterKey};
-ghost use Rattle.codec.specs.Inner.Places.{Roomy};
+ghost use Rattle.codec.specs.Inner.Places.{numberIn, Roomy};
 
 #[repr(C)]
 pub struct Channel(pub u8);
@@ -84,13 +82,13 @@ fn allowed_interval(x: u16) -> bool
 }
 
 fn allowed_key_length(x: u8) -> bool
-    ensures { λ r. ⌜ r ≡ member (8 ∷ 16 ∷ 32 ∷ []) x ⌝ }
+    ensures { λ r. ⌜ r ≡ test keyLength x ⌝ }
 {
     (x == 8) | (x == 16) | (x == 32)
 }
 
-fn letters(pair: [u8; 2]) -> bool
-    ensures { λ r. ⌜ r ≡ alphabetic pair ⌝ }
+fn allowed_country(pair: [u8; 2]) -> bool
+    ensures { λ r. ⌜ r ≡ spelled country pair ⌝ }
 {
     inside(65, 90, pair[0]) & inside(65, 90, pair[1])
 }
@@ -131,7 +129,7 @@ fn after_key_fault(b: &[u8], at: usize) -> u8
 {
     let role = at + 2;
     let mode = role + 1;
-    if !letters(pair_at(b, at)) {
+    if !allowed_country(pair_at(b, at)) {
         return NOT_ALLOWED;
     }
     if !inside(1, 2, b[role]) {
@@ -272,7 +270,7 @@ pub(crate) fn valid_configuration(present: bool, v: UwbConfiguration) -> bool
     let country = v.country;
     let k = v.key_length as usize;
     let last = inside(1, 2, v.role) & (inside(1, 2, v.mode) & is_zero_key_from(&v.key, k));
-    allowed_interval(v.interval) & (inside(1, 2, v.slot) & (letters(country) & last))
+    allowed_interval(v.interval) & (inside(1, 2, v.slot) & (allowed_country(country) & last))
 }
 
 // Writes the fields after the address and before the key.

@@ -12,10 +12,9 @@ ghost use mathlib.Core.Path.{_≡_};
 ghost use mathlib.Core.Bool.{Bool};
 ghost use Prim.Native.Nat.{ℕ, _+_, _≤_};
 ghost use lib.ListN.{length, getD};
-ghost use Rattle.codec.specs.Refusal.{numberIn};
 ghost use Rattle.codec.specs.Table.{messageLimit};
 ghost use Rattle.codec.specs.Message.{idOf, walk};
-ghost use Rattle.codec.specs.Inner.Places.{layoutsBy, sizeFault, fieldsFault, awaitedFault, Awaits, note, Finds};
+ghost use Rattle.codec.specs.Inner.Places.{numberIn, layoutsBy, sizeFault, fieldsFault, awaitedFault, Awaits, note, Finds};
 
 // The first fault in the size of a block, with so many octets left in the message, 0 for none.
 fn size_fault(size: u8, least: u8, left: usize) -> u8

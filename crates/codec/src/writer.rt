@@ -32,8 +32,9 @@ ghost use mathlib.Core.Bool.{true, cond};
 ghost use Prim.Native.Nat.{_+_, _≤_};
 ghost use lib.ListN.{length};
 ghost use Rattle.codec.specs.Blocks.{capabilities, configurations};
-ghost use Rattle.codec.specs.Table.{assigned};
-ghost use Rattle.codec.specs.Records.{response, only, settings, withoutBlocks, setRecord};
+ghost use Rattle.codec.specs.Table.{assigned, row};
+ghost use Rattle.codec.specs.Inner.Places.{setAlone};
+ghost use Rattle.codec.specs.Records.{response, only, settingsRecord, withoutBlocks, setRecord};
 ghost use Rattle.codec.specs.Writing.{Writes, WritesTyped};
 ghost use Rattle.codec.specs.Inner.Puts.{Put, head, columnOctets, columnSize, Fit};
 
@@ -127,7 +128,7 @@ pub fn write_capability_response(set: u16, c: Capability, out: &mut [u8]) -> Wri
 
 // Writes a Configuration with these blocks, as `write` does.
 fn write_configuration(set: u16, c: Configuration, out: &mut [u8]) -> Written
-    ensures { λ r. ⌜ Writes (settings set c) (now (out .entry)) r (now (out .exit)) ⌝ }
+    ensures { λ r. ⌜ Writes (settingsRecord set c) (now (out .entry)) r (now (out .exit)) ⌝ }
 {
     if !((set < SET_LIMIT) & valid_configuration(set, c)) {
         return refused(NOT_VALID);
@@ -144,7 +145,7 @@ fn write_configuration(set: u16, c: Configuration, out: &mut [u8]) -> Written
 
 // Writes a message without blocks, as `write` does.
 fn write_without_blocks(id: u8, set: u16, out: &mut [u8]) -> Written
-    requires { ⌜ (assigned id ≡ true) × (id ≡ 1 → ⊥) × (id ≡ 2 → ⊥) ⌝ }
+    requires { ⌜ (assigned id ≡ true) × (row id ≡ setAlone) ⌝ }
     ensures { λ r. ⌜ Writes (withoutBlocks id set) (now (out .entry)) r (now (out .exit)) ⌝ }
 {
     if set >= SET_LIMIT {

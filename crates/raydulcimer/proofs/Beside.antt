@@ -1,6 +1,6 @@
 -- The parameters that stand beside the record in a call by reference (`ByReference.antt`): how the function takes each and how it hands it to the callee, over a list of any length.
 --     Plain            a type of one machine value that owns only facts.        struct, number      a declared struct, an unsigned integer
---     Kind n           shared j, lent j, copied X:  a `&'j [u8]`, a `&'j mut [u8]`, and plain data. 'j is one of the callee's n lifetimes. The function has one more, the record's, which comes first, so there it is 'j + 1
+--     Parameter n           shared j, lent j, copied X:  a `&'j [u8]`, a `&'j mut [u8]`, and plain data. 'j is one of the callee's n lifetimes. The function has one more, the record's, which comes first, so there it is 'j + 1
 --     inner, outer     the parameter in the callee's signature, and in the function's.        Inners, Outers      their types
 --     given, got       a value as the callee takes it, and a last value as the function says it. Both are the identity on each kind
 --     tyOf, temps      the MIR types of a parameter's local, and of the two locals in which a `&mut [u8]` is lent again.        word, temp-words      the machine values in them
@@ -77,144 +77,144 @@ pub fits : {M : Type 1} (𝓤 : URA M) (H : Heap 𝓤) (A : Atoms 𝓤) → Give
 fits 𝓤 H A W X x is = subst (λ (τs : List Ty). Typed τs (X .val x ∷ [])) (X .mir-is) (X .lawful 𝓤 H A W .typed x (X .val x ∷ []) is) .0
 
 -- ---- a parameter, and a list of them
-pub data Kind (n : ℕ) : Type 2 where
-  shared : (j : ℕ) → Within n j → Kind n
-  lent : (j : ℕ) → Within n j → Kind n
-  copied : Plain → Kind n
+pub data Parameter (n : ℕ) : Type 2 where
+  shared : (j : ℕ) → Within n j → Parameter n
+  lent : (j : ℕ) → Within n j → Parameter n
+  copied : Plain → Parameter n
 
 module _ {n : ℕ} where
-  abbrev pub inner : Kind n → Slot n
+  abbrev pub inner : Parameter n → Slot n
   inner (shared j ok) = shrSliceOf (j ∷ []) ok (plain (λ _. u8))
   inner (lent j ok) = mutSliceOf (j ∷ []) ok (plain (λ _. u8))
   inner (copied X) = plain (λ _. X .row)
 
-  abbrev pub outer : Kind n → Slot (suc n)
+  abbrev pub outer : Parameter n → Slot (suc n)
   outer (shared j ok) = shrSliceOf (suc j ∷ []) ok (plain (λ _. u8))
   outer (lent j ok) = mutSliceOf (suc j ∷ []) ok (plain (λ _. u8))
   outer (copied X) = plain (λ _. X .row)
 
-  abbrev pub tyOf : Kind n → Ty
+  abbrev pub tyOf : Parameter n → Ty
   tyOf (shared j ok) = sliceTy (tyRef (named (suc j)) imm (tyInt w8))
   tyOf (lent j ok) = sliceTy (tyRef (named (suc j)) mut (tyInt w8))
   tyOf (copied X) = X .ty
 
-  abbrev pub tys : List (Kind n) → List Ty
+  abbrev pub tys : List (Parameter n) → List Ty
   tys ks = map tyOf ks
 
-  abbrev pub temps : List (Kind n) → List Ty
+  abbrev pub temps : List (Parameter n) → List Ty
   temps [] = []
   temps (shared j ok ∷ ks) = temps ks
   temps (lent j ok ∷ ks) = tyRef erased mut (tyInt w8) ∷ sliceTy (tyRef erased mut (tyInt w8)) ∷ temps ks
   temps (copied X ∷ ks) = temps ks
 
-  abbrev pub relend : ℕ → ℕ → List (Kind n) → Body → Body
+  abbrev pub relend : ℕ → ℕ → List (Parameter n) → Body → Body
   relend i j [] rest = rest
   relend i j (shared k ok ∷ ks) rest = relend (suc i) j ks rest
   relend i j (lent k ok ∷ ks) rest =
       seq (assign (place j []) (addrOf (place i (field 0 ∷ deref (tyInt w8) ∷ [])))) (seq (assign (place (suc j) []) (aggregate (copy (place j []) ∷ copy (place i (field 1 ∷ [])) ∷ []))) (relend (suc i) (suc (suc j)) ks rest))
   relend i j (copied X ∷ ks) rest = relend (suc i) j ks rest
 
-  abbrev pub opds : ℕ → ℕ → List (Kind n) → List Opd
+  abbrev pub opds : ℕ → ℕ → List (Parameter n) → List Opd
   opds i j [] = []
   opds i j (shared k ok ∷ ks) = copy (place i []) ∷ opds (suc i) j ks
   opds i j (lent k ok ∷ ks) = copy (place (suc j) []) ∷ opds (suc i) (suc (suc j)) ks
   opds i j (copied X ∷ ks) = copy (place i []) ∷ opds (suc i) j ks
 
   -- what stands past the parameters' locals
-  pub past : (ks : List (Kind n)) (ps : Blocks (tys ks)) (E : List (Ty × ℕ)) → skip (length ks) (env (tys ks) ps E) ≡ E
+  pub past : (ks : List (Parameter n)) (ps : Blocks (tys ks)) (E : List (Ty × ℕ)) → skip (length ks) (env (tys ks) ps E) ≡ E
   past [] ps E = refl
   past (k ∷ ks) ps E = past ks (ps .1) E
 
   module _ (κs : Lfts (suc n)) where
-    abbrev pub Outers : List (Kind n) → List RattleType
+    abbrev pub Outers : List (Parameter n) → List RattleType
     Outers ks = typesAt (map outer ks) κs
 
-    abbrev pub Inners : List (Kind n) → List RattleType
+    abbrev pub Inners : List (Parameter n) → List RattleType
     Inners ks = typesAt (map inner ks) (κs .1)
 
-    abbrev given : (k : Kind n) → outer k .row κs .Denot → inner k .row (κs .1) .Denot
+    abbrev given : (k : Parameter n) → outer k .row κs .Denot → inner k .row (κs .1) .Denot
     given (shared j ok) x = x
     given (lent j ok) x = x
     given (copied X) x = x
 
-    abbrev pub givens : (ks : List (Kind n)) → Denots (Outers ks) → Denots (Inners ks)
+    abbrev pub givens : (ks : List (Parameter n)) → Denots (Outers ks) → Denots (Inners ks)
     givens [] a = tt
     givens (k ∷ ks) a = (given k (a .0), givens ks (a .1))
 
-    abbrev got : (k : Kind n) (x : outer k .row κs .Denot) → Last (inner k .row (κs .1) .exit yes) (given k x) → Last (outer k .row κs .exit yes) x
+    abbrev got : (k : Parameter n) (x : outer k .row κs .Denot) → Last (inner k .row (κs .1) .exit yes) (given k x) → Last (outer k .row κs .exit yes) x
     got (shared j ok) x w = w
     got (lent j ok) x w = w
     got (copied X) x w = w
 
-    abbrev pub gots : (ks : List (Kind n)) (a : Denots (Outers ks)) → Fins (κs .1) (map inner ks) (all yes (map inner ks)) (givens ks a) → Fins κs (map outer ks) (all yes (map outer ks)) a
+    abbrev pub gots : (ks : List (Parameter n)) (a : Denots (Outers ks)) → Fins (κs .1) (map inner ks) (all yes (map inner ks)) (givens ks a) → Fins κs (map outer ks) (all yes (map outer ks)) a
     gots [] a ws = tt
     gots (k ∷ ks) a ws = (got k (a .0) (ws .0), gots ks (a .1) (ws .1))
 
     -- ---- the machine values
-    abbrev word : (k : Kind n) → outer k .row κs .Denot → Val
+    abbrev word : (k : Parameter n) → outer k .row κs .Denot → Val
     word (shared j ok) x = sliceVal (ptr x) (length (now x))
     word (lent j ok) x = sliceVal (ptr x) (length (now x))
     word (copied X) x = X .val x
 
-    abbrev pub temp-words : (ks : List (Kind n)) → Denots (Outers ks) → List Val
+    abbrev pub temp-words : (ks : List (Parameter n)) → Denots (Outers ks) → List Val
     temp-words [] a = []
     temp-words (shared j ok ∷ ks) a = temp-words ks (a .1)
     temp-words (lent j ok ∷ ks) a = vptr (ptr (a .0) .0) (ptr (a .0) .1) ∷ sliceVal (ptr (a .0)) (length (now (a .0))) ∷ temp-words ks (a .1)
     temp-words (copied X ∷ ks) a = temp-words ks (a .1)
 
-    abbrev pub spells : (ks : List (Kind n)) → Spells (Outers ks)
+    abbrev pub spells : (ks : List (Parameter n)) → Spells (Outers ks)
     spells [] = tt
     spells (k ∷ ks) = ((λ x. word k x ∷ []), spells ks)
 
-    abbrev pub outer-vals : (ks : List (Kind n)) → Denots (Outers ks) → Valss (Outers ks)
+    abbrev pub outer-vals : (ks : List (Parameter n)) → Denots (Outers ks) → Valss (Outers ks)
     outer-vals ks a = valss (Outers ks) (spells ks) a
 
-    abbrev pub inner-vals : (ks : List (Kind n)) → Denots (Outers ks) → Valss (Inners ks)
+    abbrev pub inner-vals : (ks : List (Parameter n)) → Denots (Outers ks) → Valss (Inners ks)
     inner-vals [] a = tt
     inner-vals (k ∷ ks) a = (word k (a .0) ∷ [], inner-vals ks (a .1))
 
-    abbrev pub words : (ks : List (Kind n)) → Denots (Outers ks) → List Val
+    abbrev pub words : (ks : List (Parameter n)) → Denots (Outers ks) → List Val
     words ks a = flat (Outers ks) (outer-vals ks a)
 
-    tell : (k : Kind n) → Tells (outer k .row κs) (Is (outer k .row κs)) (λ x. word k x ∷ [])
+    tell : (k : Parameter n) → Tells (outer k .row κs) (Is (outer k .row κs)) (λ x. word k x ∷ [])
     tell (shared j ok) = λ x vs is. is .0 .0
     tell (lent j ok) = λ x vs is. is .0 .0
     tell (copied X) = X .tells
 
-    pub tell-all : (ks : List (Kind n)) → Tellss (Outers ks) (Ises (Outers ks)) (spells ks)
+    pub tell-all : (ks : List (Parameter n)) → Tellss (Outers ks) (Ises (Outers ks)) (spells ks)
     tell-all [] = tt
     tell-all (k ∷ ks) = (tell k, tell-all ks)
 
     -- each value is related to its machine value
-    abbrev pub AreAll : (ks : List (Kind n)) → Denots (Outers ks) → Type 0
+    abbrev pub AreAll : (ks : List (Parameter n)) → Denots (Outers ks) → Type 0
     AreAll ks a = Are (Outers ks) (Ises (Outers ks)) a (outer-vals ks a)
 
 module _ {M : Type 1} (𝓤 : URA M) (H : Heap 𝓤) (A : Atoms 𝓤) (W : Given 𝓤 H A) {n : ℕ} (κs : Lfts (suc n)) where
-  fit : (k : Kind n) (x : outer k .row κs .Denot) → Is (outer k .row κs) x (word κs k x ∷ []) → T (hasTy (tyOf k) (word κs k x)) × WT (word κs k x)
+  fit : (k : Parameter n) (x : outer k .row κs .Denot) → Is (outer k .row κs) x (word κs k x ∷ []) → T (hasTy (tyOf k) (word κs k x)) × WT (word κs k x)
   fit (shared j ok) x is = (tt, (tt, (record { fits = is .0 .1 .0 }, tt)))
   fit (lent j ok) x is = (tt, (tt, (record { fits = is .0 .1 .0 }, tt)))
   fit (copied X) x is = fits 𝓤 H A W X x is
 
-  pub fit-all : (ks : List (Kind n)) (a : Denots (Outers κs ks)) → AreAll κs ks a → Typed (tys ks) (words κs ks a)
+  pub fit-all : (ks : List (Parameter n)) (a : Denots (Outers κs ks)) → AreAll κs ks a → Typed (tys ks) (words κs ks a)
   fit-all [] a are = tt
   fit-all (k ∷ ks) a are = (fit k (a .0) (are .0), fit-all ks (a .1) (are .1))
 
-  hand : (k : Kind n) (x : outer k .row κs .Denot) → ent 𝓤 (sem 𝓤 H A (outer k .row κs .own x (word κs k x ∷ []))) (sem 𝓤 H A (inner k .row (κs .1) .own (given κs k x) (word κs k x ∷ [])))
+  hand : (k : Parameter n) (x : outer k .row κs .Denot) → ent 𝓤 (sem 𝓤 H A (outer k .row κs .own x (word κs k x ∷ []))) (sem 𝓤 H A (inner k .row (κs .1) .own (given κs k x) (word κs k x ∷ [])))
   hand (shared j ok) x = id⊢ 𝓤 _
   hand (lent j ok) x = id⊢ 𝓤 _
   hand (copied X) x = id⊢ 𝓤 _
 
-  pub hand-all : (ks : List (Kind n)) (a : Denots (Outers κs ks)) → ent 𝓤 (sem 𝓤 H A (owns (Outers κs ks) a (outer-vals κs ks a))) (sem 𝓤 H A (owns (Inners κs ks) (givens κs ks a) (inner-vals κs ks a)))
+  pub hand-all : (ks : List (Parameter n)) (a : Denots (Outers κs ks)) → ent 𝓤 (sem 𝓤 H A (owns (Outers κs ks) a (outer-vals κs ks a))) (sem 𝓤 H A (owns (Inners κs ks) (givens κs ks a) (inner-vals κs ks a)))
   hand-all [] a = id⊢ 𝓤 _
   hand-all (k ∷ ks) a = mono∗ 𝓤 (hand k (a .0)) (hand-all ks (a .1))
 
-  tell-last : (k : Kind n) (x : outer k .row κs .Denot) (w : Last (inner k .row (κs .1) .exit yes) (given κs k x))
+  tell-last : (k : Parameter n) (x : outer k .row κs .Denot) (w : Last (inner k .row (κs .1) .exit yes) (given κs k x))
       → ent 𝓤 (sem 𝓤 H A (left (inner k .row (κs .1) .exit yes) (given κs k x) w)) (sem 𝓤 H A (left (outer k .row κs .exit yes) x (got κs k x w)))
   tell-last (shared j ok) x w = id⊢ 𝓤 _
   tell-last (lent j ok) x w = id⊢ 𝓤 _
   tell-last (copied X) x w = id⊢ 𝓤 _
 
-  pub tell-lasts : (ks : List (Kind n)) (a : Denots (Outers κs ks)) (ws : Fins (κs .1) (map inner ks) (all yes (map inner ks)) (givens κs ks a))
+  pub tell-lasts : (ks : List (Parameter n)) (a : Denots (Outers κs ks)) (ws : Fins (κs .1) (map inner ks) (all yes (map inner ks)) (givens κs ks a))
       → ent 𝓤 (sem 𝓤 H A (lastsOf (κs .1) (map inner ks) (all yes (map inner ks)) (givens κs ks a) ws)) (sem 𝓤 H A (lastsOf κs (map outer ks) (all yes (map outer ks)) a (gots κs ks a ws)))
   tell-lasts [] a ws = id⊢ 𝓤 _
   tell-lasts (k ∷ ks) a ws = mono∗ 𝓤 (tell-last k (a .0) (ws .0)) (tell-lasts ks (a .1) (ws .1))
@@ -225,7 +225,7 @@ abbrev Sees : {M : Type 1} {𝓤 : URA M} {H : Heap 𝓤} {A : Atoms 𝓤} (K : 
 Sees {𝓤 = 𝓤} K W Γ i = (τ : Ty) (b : ℕ) (v : Val) (back : Val → Item 𝓤) → Part K W i fullShare τ b zero v back → Reads K W Γ τ b zero v
 
 module _ {M : Type 1} {𝓤 : URA M} {H : Heap 𝓤} {A : Atoms 𝓤} {K : Type 0} {W : Given 𝓤 H A} {n : ℕ} (κs : Lfts (suc n)) (E : Env 𝓤 H) (F : List (Ty × ℕ)) where
-  pub relends : K → (ks : List (Kind n)) (a : Denots (Outers κs ks)) → AreAll κs ks a → (i j : ℕ) (ps : Blocks (tys ks)) (ts : Blocks (temps ks)) → skip i E ≡ env (tys ks) ps F → skip j E ≡ env (temps ks) ts []
+  pub relends : K → (ks : List (Parameter n)) (a : Denots (Outers κs ks)) → AreAll κs ks a → (i j : ℕ) (ps : Blocks (tys ks)) (ts : Blocks (temps ks)) → skip i E ≡ env (tys ks) ps F → skip j E ≡ env (temps ks) ts []
       → (rest : Body) {C : Calls 𝓤 H} {Λ : Loops 𝓤 H} {q : Post 𝓤 H} {Γ : List (Item 𝓤)}
       → Step K W (cells (tys ks) ps (words κs ks a) ∷ cells (temps ks) ts (temp-words κs ks a) ∷ Γ) (runs C Λ E rest q) (cells (tys ks) ps (words κs ks a) ∷ cells (temps ks) ts [] ∷ Γ) (runs C Λ E (relend i j ks rest) q)
   relends t [] a are i j ps ts at-i at-j rest = step (λ s. s)
@@ -243,7 +243,7 @@ module _ {M : Type 1} {𝓤 : URA M} {H : Heap 𝓤} {A : Atoms 𝓤} {K : Type 
   relends t (copied X ∷ ks) a are i j ps ts at-i at-j rest =
       step (λ s. split t $ move t (1 ∷ 2 ∷ []) $ relends t ks (a .1) (are .1) (suc i) j (ps .1) ts (next i E at-i) at-j rest $ move t (2 ∷ 0 ∷ []) $ join t $ s)
 
-  pub operands : K → {Γ : List (Item 𝓤)} (ks : List (Kind n)) (a : Denots (Outers κs ks)) (i j : ℕ) (ps : Blocks (tys ks)) (ts : Blocks (temps ks)) → skip i E ≡ env (tys ks) ps F → skip j E ≡ env (temps ks) ts []
+  pub operands : K → {Γ : List (Item 𝓤)} (ks : List (Parameter n)) (a : Denots (Outers κs ks)) (i j : ℕ) (ps : Blocks (tys ks)) (ts : Blocks (temps ks)) → skip i E ≡ env (tys ks) ps F → skip j E ≡ env (temps ks) ts []
       → Sees K W Γ (cells (tys ks) ps (words κs ks a)) → Sees K W Γ (cells (temps ks) ts (temp-words κs ks a)) → Opds K W Γ E (opds i j ks) (flat (Inners κs ks) (inner-vals κs ks a))
   operands t [] a i j ps ts at-i at-j see-p see-t = no-more t
   operands t (shared k ok ∷ ks) a i j ps ts at-i at-j see-p see-t =

@@ -3,7 +3,7 @@
 -- meets its contract where the callee meets its own. The parameters beside the record are a list (`Beside.antt`), and the law is over any such list.
 --     Returned S R     what the callee returns: a struct of the record, its first field, and the answer, its second
 --     callee, caller   the two signatures.        function      the function's MIR
---     Follows c d      the callee's contract c gives the function's contract d: at each call, a ghost value of the callee's, that what d requires shows what c requires, and that what c ensures of what is returned shows what d ensures of the answer and of the record at exit
+--     Implies c d      the callee's contract c gives the function's contract d: at each call, a ghost value of the callee's, that what d requires shows what c requires, and that what c ensures of what is returned shows what d ensures of the answer and of the record at exit
 --     by-reference     the law
 -- The walk: the record's borrow is opened and the record is copied; each `&mut [u8]` is lent again; the callee is called, and has the slices for good; the record that it returns is stored, and the borrow is closed at it.
 -- Assumes nothing.
@@ -46,7 +46,7 @@ use denote.Triple.End.{all, lastsOf}
 use denote.Triple.Clauses.{Ended, Clauses, Lasts, atExit, lasts, ensured, closing}
 use denote.Triple.Table.{entered, cited}
 use Rattle.raydulcimer.proofs.Locals.{Blocks, values, env, cells, deaths, alloc-all, pass-all, free-all, forget-all, at-local, next}
-use Rattle.raydulcimer.proofs.Beside.{Plain, fits, Kind, inner, outer, tys, temps, relend, opds, past, Outers, Inners, givens, gots, words, temp-words, spells, outer-vals, inner-vals, tell-all, AreAll, fit-all, hand-all, tell-lasts, relends, operands}
+use Rattle.raydulcimer.proofs.Beside.{Plain, fits, Parameter, inner, outer, tys, temps, relend, opds, past, Outers, Inners, givens, gots, words, temp-words, spells, outer-vals, inner-vals, tell-all, AreAll, fit-all, hand-all, tell-lasts, relends, operands}
 
 pub record Returned (S R : Plain) : Type 2 where
   pub row : RattleType
@@ -57,7 +57,7 @@ pub record Returned (S R : Plain) : Type 2 where
   pub first-is : (t : row .Denot) (vs : List Val) → Is row t vs → Is (S .row) (first t) (S .val (first t) ∷ [])
   pub second-is : (t : row .Denot) (vs : List Val) → Is row t vs → Is (R .row) (second t) (R .val (second t) ∷ [])
 
-module _ {n : ℕ} {S R : Plain} (P : Returned S R) (ks : List (Kind n)) where
+module _ {n : ℕ} {S R : Plain} (P : Returned S R) (ks : List (Parameter n)) where
   -- ---- the two signatures, and the code
   abbrev pub callee : Ended
   callee = record { signature = record { lifetimes = n; outlives = []; params = plain (λ _. S .row) ∷ map inner ks; result = plain (λ _. P .row) }; kept = (yes, all yes (map inner ks)) }
@@ -91,14 +91,14 @@ module _ {n : ℕ} {S R : Plain} (P : Returned S R) (ks : List (Kind n)) where
         (seq (assign (place 0 []) (rvOpd (copy (place t-local (field 1 ∷ []))))) return))));
   }
 
-  abbrev pub Follows : {M : Type 1} (𝓤 : URA M) → Clauses 𝓤 callee → Clauses 𝓤 caller → Type 1
-  Follows 𝓤 c d = (κs : Lfts (suc n)) (x : RefT (S .row .Denot)) (a : Denots (Outers κs ks)) (g : d κs (x, a) .ghost)
+  abbrev pub Implies : {M : Type 1} (𝓤 : URA M) → Clauses 𝓤 callee → Clauses 𝓤 caller → Type 1
+  Implies 𝓤 c d = (κs : Lfts (suc n)) (x : RefT (S .row .Denot)) (a : Denots (Outers κs ks)) (g : d κs (x, a) .ghost)
       → (h : c (κs .1) (now x, givens κs ks a) .ghost)
       × ent 𝓤 (d κs (x, a) .requires g) (c (κs .1) (now x, givens κs ks a) .requires h)
       × ((t : P .row .Denot) (ws : Lasts callee (κs .1) (now x, givens κs ks a))
       → ent 𝓤 (c (κs .1) (now x, givens κs ks a) .ensures h t (atExit callee (κs .1) (now x, givens κs ks a) ws)) (d κs (x, a) .ensures g (P .second t) (atExit caller κs (x, a) (P .first t, gots κs ks a (ws .1)))))
 
-  module _ {M : Type 1} (𝓤 : URA M) (H : Heap 𝓤) (A : Atoms 𝓤) (W : Given 𝓤 H A) (c : Clauses 𝓤 callee) (d : Clauses 𝓤 caller) (follows : Follows 𝓤 c d)
+  module _ {M : Type 1} (𝓤 : URA M) (H : Heap 𝓤) (A : Atoms 𝓤) (W : Given 𝓤 H A) (c : Clauses 𝓤 callee) (d : Clauses 𝓤 caller) (follows : Implies 𝓤 c d)
       (C : Calls 𝓤 H) (Λ : Loops 𝓤 H) (fm : FmC 𝓤 H (W .laws) C) (f : Name) (known : Triple 𝓤 (C f) (tripleOf 𝓤 H A (callee .signature) (closing 𝓤 H A callee c))) where
     abbrev Called : Contract 𝓤
     Called = tripleOf 𝓤 H A (callee .signature) (closing 𝓤 H A callee c)
@@ -238,7 +238,7 @@ module _ {n : ℕ} {S R : Plain} (P : Returned S R) (ks : List (Kind n)) where
         (comm∗ 𝓤 (wand 𝓤 needs (ends (z .0 .4))) needs))
         (apply∗ 𝓤 needs (ends (z .0 .4)))
 
-  pub by-reference : {M : Type 1} (𝓤 : URA M) (H : Heap 𝓤) (𝓜 : Model 𝓤 H) (𝓖 : GhostRules 𝓤 H) (𝓡 : Running 𝓤 H 𝓜) (c : Clauses 𝓤 callee) (d : Clauses 𝓤 caller) → Follows 𝓤 c d → (γ : Routines) (self other : Name)
+  pub by-reference : {M : Type 1} (𝓤 : URA M) (H : Heap 𝓤) (𝓜 : Model 𝓤 H) (𝓖 : GhostRules 𝓤 H) (𝓡 : Running 𝓤 H 𝓜) (c : Clauses 𝓤 callee) (d : Clauses 𝓤 caller) → Implies 𝓤 c d → (γ : Routines) (self other : Name)
       → Closed 𝓤 H (tables 𝓤 H 𝓜 𝓡 γ .C) (tables 𝓤 H 𝓜 𝓡 γ .Λ) self (function other) → (r : Routine) → γ other ≡ r → Meets 𝓤 H (𝓖 .A) (callee .signature) (𝓡 .run r) (closing 𝓤 H (𝓖 .A) callee c)
       → Meets 𝓤 H (𝓖 .A) (caller .signature) (𝓡 .run (γ self)) (closing 𝓤 H (𝓖 .A) caller d)
   unfolding tablesOf

@@ -7,11 +7,11 @@ use Rattle.session.specs.declared.state.Profile.{Profile}
 use Rattle.codec.specs.Technology.{Technology}
 use Rattle.session.specs.Within.{ranges, bars}
 use Rattle.session.specs.Rules.{Call, request, configuration, stop, after, endedBy}
-use Rattle.session.specs.Ledger.{Ledger, Cell, nothing, onLedger, ledgerCall, stateAfter}
+use Rattle.session.specs.Ledger.{Ledger, Holding, nothing, onLedger, ledgerCall, stateAfter}
 use Rattle.session.specs.Demand3.{held}
 use Rattle.session.proofs.Happened.{Happened, declined, served, advertised, happened, accepted-gives, advertised-gives}
 
-pub record Regular (t : Technology) (x : Cell t) : Type 0 where
+pub record Regular (t : Technology) (x : Holding t) : Type 0 where
   pub still : ranges t ≡ false → x .inForce ≡ none
   pub free : bars t ≡ false → x .mark ≡ false
 

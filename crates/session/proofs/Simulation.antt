@@ -16,7 +16,7 @@ use Rattle.codec.specs.Records.{Settings, settingsIn}
 use Rattle.session.specs.Within.{ranges, bars}
 use Rattle.session.specs.Rules.{Said, message, advertisement, Call, Kind, request, configuration, stop, kindOf, octetsOf, eligible, chosen, Served, conclude, Operations, giveOut, setBy, endedBy, serve, respond, call}
 use Rattle.session.specs.Ledger.{Ledger, isSome, onLedger}
-use Rattle.session.specs.Session.{yes, flag, Part, partOf, partIn, markIn, sessionWith, inForceIn, onSession}
+use Rattle.session.specs.Session.{yes, flag, TechnologyState, stateOf, stateIn, markIn, sessionWith, inForceIn, onSession}
 use Rattle.session.specs.Demand3.{sessionOf}
 use Rattle.session.proofs.Regular.{Regular}
 
@@ -77,11 +77,11 @@ module _ {S T : Type 0} (f : S → T) where
 
 -- ---- a ledger's cell told by a part of the session record
 
-part-ranging : (t : Technology) (o : Option (Settings t)) → yes (partOf {t = t} o .ranging) ≡ isSome o
+part-ranging : (t : Technology) (o : Option (Settings t)) → yes (stateOf {t = t} o .ranging) ≡ isSome o
 part-ranging t none = refl
 part-ranging t (some x) = refl
 
-part-force : (t : Technology) (o : Option (Settings t)) → cond (yes (partOf {t = t} o .ranging)) (some (partOf {t = t} o .settings)) none ≡ o
+part-force : (t : Technology) (o : Option (Settings t)) → cond (yes (stateOf {t = t} o .ranging)) (some (stateOf {t = t} o .settings)) none ≡ o
 part-force t none = refl
 part-force t (some x) = refl
 
@@ -90,11 +90,11 @@ yes-flag true = refl
 yes-flag false = refl
 
 module _ (p : Profile) (l : Ledger) (h : (t : Technology) → Regular t (l t)) where
-  part-of : (t : Technology) → partIn (sessionOf p l) t ≡ partOf (l t .inForce)
-  part-of uwb = refl
-  part-of cs = ap partOf (sym (h cs .still refl))
-  part-of nan = refl
-  part-of rssi = refl
+  state-of : (t : Technology) → stateIn (sessionOf p l) t ≡ stateOf (l t .inForce)
+  state-of uwb = refl
+  state-of cs = ap stateOf (sym (h cs .still refl))
+  state-of nan = refl
+  state-of rssi = refl
 
   mark-of : (t : Technology) → markIn (sessionOf p l) t ≡ flag (l t .mark)
   mark-of uwb = refl
@@ -103,11 +103,11 @@ module _ (p : Profile) (l : Ledger) (h : (t : Technology) → Regular t (l t)) w
   mark-of rssi = ap flag (sym (h rssi .free refl))
 
   pub in-force : (t : Technology) → inForceIn (sessionOf p l) t ≡ l t .inForce
-  in-force t = rw (part-of t) (part-force t (l t .inForce))
+  in-force t = rw (state-of t) (part-force t (l t .inForce))
 
-  part-changed : (t : Technology) (changed : Bool) (o : Option (Settings t)) → cond changed (partOf o) (partIn (sessionOf p l) t) ≡ partOf (cond changed o (l t .inForce))
+  part-changed : (t : Technology) (changed : Bool) (o : Option (Settings t)) → cond changed (stateOf o) (stateIn (sessionOf p l) t) ≡ stateOf (cond changed o (l t .inForce))
   part-changed t true o = refl
-  part-changed t false o = part-of t
+  part-changed t false o = state-of t
 
   mark-given : (t : Technology) (given : Bool) → cond given 0 (markIn (sessionOf p l) t) ≡ flag (l t .mark && not given)
   mark-given t true = ap flag (sym (and-false (l t .mark)))
@@ -117,14 +117,14 @@ module _ (p : Profile) (l : Ledger) (h : (t : Technology) → Regular t (l t)) w
   mark-ended t true = ap flag (sym (or-true (l t .mark)))
   mark-ended t false = mark-of t ∙ ap flag (sym (or-false (l t .mark)))
 
-  with-same : {f g : (t : Technology) → Part t} {m n : Technology → ℕ} → ((t : Technology) → f t ≡ g t) → ((t : Technology) → m t ≡ n t) → sessionWith p f m ≡ sessionWith p g n
+  with-same : {f g : (t : Technology) → TechnologyState t} {m n : Technology → ℕ} → ((t : Technology) → f t ≡ g t) → ((t : Technology) → m t ≡ n t) → sessionWith p f m ≡ sessionWith p g n
   with-same e q = λ i. sessionWith p (λ t. e t i) (λ t. q t i)
 
   pub session-follows : Follows onLedger onSession (sessionOf p) l
   session-follows = record {
-    ranging = λ t. rw (part-of t) (part-ranging t (l t .inForce));
+    ranging = λ t. rw (state-of t) (part-ranging t (l t .inForce));
     barred = λ t. rw (mark-of t) (yes-flag (l t .mark));
-    give = λ has. with-same part-of (λ t. mark-given t (has t));
+    give = λ has. with-same state-of (λ t. mark-given t (has t));
     put = λ isSet c. with-same (λ t. part-changed t (ranges t && isSet t) (some (settingsIn c t))) mark-of;
     stop = λ ended. with-same (λ t. part-changed t (ended t) none) (λ t. mark-ended t (bars t && ended t));
   }

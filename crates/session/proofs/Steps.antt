@@ -29,7 +29,7 @@ use Rattle.session.specs.declared.state.Answer.{Answer}
 use Rattle.codec.specs.Technology.{technologies, setLimit, Technology, technologyId, uwb, nan, rssi, names, naming, bit, ofBits, inBoth}
 use Rattle.session.specs.Within.{bars}
 use Rattle.session.specs.Rules.{validProfile, message, advertisement, Call, Kind, request, configuration, stop, kindOf, octetsOf, replied, shows, capabilityReply, Served, conclude, giveOut, configure, setBy, endedBy, halt, serve, respond, call, after, answerTo}
-use Rattle.session.specs.Session.{yes, partIn, markIn, withParts, withMarks, onSession, sessionCall, Gives, asProfile, profileOf}
+use Rattle.session.specs.Session.{yes, stateIn, markIn, withStates, withMarks, onSession, sessionCall, Gives, asProfile, profileOf}
 use Rattle.session.specs.Inner.Replies.{Delivers, settle, Answers}
 use Rattle.codec.proofs.SetLaws.{naming-below, names-naming}
 
@@ -119,7 +119,7 @@ module _ (s : Session) (wanted : ℕ) {blocks m : ℕ} {b e : List ℕ} {w : Wri
 
 -- what stops, with a message's settings
 abbrev pub ends : (Technology → Bool) → Configuration → Session → Session
-ends ended c s = withMarks (withParts s (λ t. cond (ended t) (record { ranging = 0; settings = settingsIn c t }) (partIn s t))) (λ t. cond (bars t && ended t) 1 (markIn s t))
+ends ended c s = withMarks (withStates s (λ t. cond (ended t) (record { ranging = 0; settings = settingsIn c t }) (stateIn s t))) (λ t. cond (bars t && ended t) 1 (markIn s t))
 
 -- one technology, or none
 abbrev pub alone : Technology → Bool → Technology → Bool

@@ -15,7 +15,7 @@ use Rattle.codec.specs.Records.{Settings}
 use Rattle.session.specs.Rules.{Call}
 use Rattle.session.specs.Ledger.{Ledger, nothing, ledgerCall, seenFrom, stateAfter}
 use Rattle.session.specs.History.{Account, Words, Reports}
-use Rattle.session.specs.Session.{flag, partOf, sessionWith, inForceIn, asProfile, profileOf, started}
+use Rattle.session.specs.Session.{flag, stateOf, sessionWith, inForceIn, asProfile, profileOf, started}
 use Rattle.session.specs.Trace.{Event, seenOf, Ran, callsOf}
 
 -- what the ledger holds after these calls
@@ -24,7 +24,7 @@ held p calls = stateAfter (ledgerCall p) nothing calls
 
 -- the session record that says what a ledger holds
 abbrev pub sessionOf : Profile → Ledger → Session
-sessionOf p l = sessionWith p (λ t. partOf (l t .inForce)) (λ t. flag (l t .mark))
+sessionOf p l = sessionWith p (λ t. stateOf (l t .inForce)) (λ t. flag (l t .mark))
 
 -- what holds of a list of calls from a fresh session with an accepted profile; `e` is the session after it
 pub record Upheld (p : Profile) (events : List Event) (e : Session) : Type 1 where

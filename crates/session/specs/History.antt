@@ -13,7 +13,7 @@ use Rattle.codec.specs.declared.records.Record.{Record}
 use Rattle.codec.specs.declared.records.SetMessage.{SetMessage}
 use Rattle.session.specs.declared.state.Profile.{Profile}
 use Rattle.session.specs.declared.state.Answer.{Answer}
-use Rattle.codec.specs.Technology.{Technology, technologyId, names}
+use Rattle.codec.specs.Technology.{setLimit, Technology, technologyId, names}
 use Rattle.codec.specs.Records.{Settings, settingsIn, capabilityIn, setRecord}
 use Rattle.session.specs.Within.{ranges, bars, withinProfile}
 use Rattle.session.specs.Rules.{Call, message, advertisement, Kind, request, configuration, stop, kindOf, explicit, capabilityReply}
@@ -71,7 +71,7 @@ module _ (p : Profile) where
     pub reply : Record
     pub octets : wrote ≡ normal reply
     pub id : reply .id ≡ 1
-    pub known : reply .set < 16
+    pub known : reply .set < setLimit
     pub set : (t : Technology) → names (reply .set) t ≡ wanted t && names (p .set) t
     pub fields : (t : Technology) → names (reply .set) t ≡ true → capabilityIn (reply .capability) t ≡ capabilityIn (p .capability) t
 

@@ -12,12 +12,12 @@ use Rattle.session.specs.Within.{ranges, bars}
 use Rattle.session.specs.Rules.{Call, Served, after, Operations, call, answerTo, bufferAfter}
 
 -- what the ledger holds of a technology: the settings in force, or none, and the mark, which only UWB ever gets
-pub record Cell (t : Technology) : Type 0 where
+pub record Holding (t : Technology) : Type 0 where
   pub inForce : Option (Settings t)
   pub mark : Bool
 
 abbrev pub Ledger : Type 0
-Ledger = (t : Technology) → Cell t
+Ledger = (t : Technology) → Holding t
 
 -- it begins with no settings and no mark
 unfoldable pub nothing : Ledger

@@ -6,6 +6,7 @@ use mathlib.Core.Option.{Option, none, some}
 use mathlib.Core.Bool.{Bool, cond, not, _&&_}
 use lib.Dec.{eqb, ltb}
 use Rattle.codec.specs.Refusal.{Checked, refuse, accept, demand, numberOf, notValid}
+use Rattle.codec.specs.Table.{messageOf}
 use Rattle.codec.specs.Valid.{valid}
 use Rattle.codec.specs.declared.records.Record.{Record}
 use Rattle.session.specs.declared.state.Profile.{Profile}
@@ -28,21 +29,21 @@ flag b = cond b 1 0
 -- ---- what the session record holds of each technology
 
 -- whether it is ranging, and its settings
-pub record Part (t : Technology) : Type 0 where
+pub record TechnologyState (t : Technology) : Type 0 where
   pub ranging : ℕ
   pub settings : Settings t
 
 -- it is ranging with its settings in force; with none it is not, and the settings are zero
-abbrev pub partOf : {t : Technology} → Option (Settings t) → Part t
-partOf {t} none = record { ranging = 0; settings = settingsIn (blank configurations) t }
-partOf (some x) = record { ranging = 1; settings = x }
+abbrev pub stateOf : {t : Technology} → Option (Settings t) → TechnologyState t
+stateOf {t} none = record { ranging = 0; settings = settingsIn (blank configurations) t }
+stateOf (some x) = record { ranging = 1; settings = x }
 
 -- the record has no place for CS, which is never ranging at the tag
-abbrev pub partIn : Session → (t : Technology) → Part t
-partIn s uwb = record { ranging = s .uwb .ranging; settings = s .uwb .settings }
-partIn s cs = partOf none
-partIn s nan = record { ranging = s .nan .ranging; settings = s .nan .settings }
-partIn s rssi = record { ranging = s .rssi .ranging; settings = s .rssi .settings }
+abbrev pub stateIn : Session → (t : Technology) → TechnologyState t
+stateIn s uwb = record { ranging = s .uwb .ranging; settings = s .uwb .settings }
+stateIn s cs = stateOf none
+stateIn s nan = record { ranging = s .nan .ranging; settings = s .nan .settings }
+stateIn s rssi = record { ranging = s .rssi .ranging; settings = s .rssi .settings }
 
 -- the mark is UWB's
 abbrev pub markIn : Session → Technology → ℕ
@@ -51,29 +52,29 @@ markIn s cs = 0
 markIn s nan = 0
 markIn s rssi = 0
 
--- the record that holds these parts and marks
-abbrev pub sessionWith : Profile → ((t : Technology) → Part t) → (Technology → ℕ) → Session
-sessionWith p part mark = record {
+-- the record that holds these states and marks
+abbrev pub sessionWith : Profile → ((t : Technology) → TechnologyState t) → (Technology → ℕ) → Session
+sessionWith p state mark = record {
   profile = p;
-  uwb = record { ranging = part uwb .ranging; settings = part uwb .settings };
-  nan = record { ranging = part nan .ranging; settings = part nan .settings };
-  rssi = record { ranging = part rssi .ranging; settings = part rssi .settings };
+  uwb = record { ranging = state uwb .ranging; settings = state uwb .settings };
+  nan = record { ranging = state nan .ranging; settings = state nan .settings };
+  rssi = record { ranging = state rssi .ranging; settings = state rssi .settings };
   mark = mark uwb;
 }
 
--- the same record with other parts, or with other marks
-abbrev pub withParts : Session → ((t : Technology) → Part t) → Session
-withParts s part = sessionWith (s .profile) part (markIn s)
+-- the same record with other states, or with other marks
+abbrev pub withStates : Session → ((t : Technology) → TechnologyState t) → Session
+withStates s state = sessionWith (s .profile) state (markIn s)
 
 abbrev pub withMarks : Session → (Technology → ℕ) → Session
-withMarks s mark = sessionWith (s .profile) (partIn s) mark
+withMarks s mark = sessionWith (s .profile) (stateIn s) mark
 
 abbrev pub rangingIn : Session → Technology → Bool
-rangingIn s t = yes (partIn s t .ranging)
+rangingIn s t = yes (stateIn s t .ranging)
 
 -- the settings in force, or none
 abbrev pub inForceIn : Session → (t : Technology) → Option (Settings t)
-inForceIn s t = cond (rangingIn s t) (some (partIn s t .settings)) none
+inForceIn s t = cond (rangingIn s t) (some (stateIn s t .settings)) none
 
 -- ---- the calls
 
@@ -83,8 +84,8 @@ onSession = record {
   ranging = rangingIn;
   barred = λ s t. yes (markIn s t);
   give = λ has s. withMarks s (λ t. cond (has t) 0 (markIn s t));
-  put = λ isSet c s. withParts s (λ t. cond (ranges t && isSet t) (partOf (some (settingsIn c t))) (partIn s t));
-  stop = λ ended s. withMarks (withParts s (λ t. cond (ended t) (partOf none) (partIn s t))) (λ t. cond (bars t && ended t) 1 (markIn s t));
+  put = λ isSet c s. withStates s (λ t. cond (ranges t && isSet t) (stateOf (some (settingsIn c t))) (stateIn s t));
+  stop = λ ended s. withMarks (withStates s (λ t. cond (ended t) (stateOf none) (stateIn s t))) (λ t. cond (bars t && ended t) 1 (markIn s t));
 }
 
 -- a profile that is not valid is refused before all else
@@ -105,7 +106,7 @@ Does s c a next left = Gives s (sessionCall s c) (c .lent) a next left
 
 -- a fresh session ranges with nothing
 abbrev pub fresh : Profile → Session
-fresh p = sessionWith p (λ t. partOf none) (λ t. 0)
+fresh p = sessionWith p (λ t. stateOf none) (λ t. 0)
 
 abbrev pub emptyProfile : Profile
 emptyProfile = record { set = 0; replies = 0; capability = blank capabilities }
@@ -116,7 +117,7 @@ asProfile r replies = record { set = r .set; replies = replies; capability = r .
 -- a profile is a valid record of message 1 with one of the three reply choices
 unfoldable pub profileOf : Record → ℕ → Checked Profile
 profileOf r replies =
-    demand ((eqb (r .id) 1 && valid r) && ltb replies 3) notValid (accept (asProfile r replies))
+    demand ((eqb (r .id) (messageOf capabilities) && valid r) && ltb replies 3) notValid (accept (asProfile r replies))
 
 -- a refused start returns a fresh session with an empty profile, replies not said
 abbrev pub started : Checked Profile → Started

@@ -9,7 +9,7 @@ use crate::within::within_uwb;
 use codec::Configuration;
 use codec::SetMessage;
 use codec::both_have;
-use codec::set_of;
+use codec::set_naming;
 use codec::technology::CS;
 use codec::technology::NAN;
 use codec::technology::RSSI;
@@ -55,7 +55,7 @@ pub(crate) fn configure(s: Session, set: u16, c: Configuration, out: &mut [u8]) 
     let cs = eligible_cs(s, set, c);
     let nan = eligible_nan(s, set, c);
     let rssi = eligible_rssi(s, set, c);
-    let those = set_of(uwb, cs, nan, rssi);
+    let those = set_naming(uwb, cs, nan, rssi);
     let w = deliver(
         s.profile.replies,
         SetMessage::ConfigurationResponse,

@@ -5,7 +5,7 @@ use crate::state::Answer;
 use crate::state::Session;
 use codec::SetMessage;
 use codec::has;
-use codec::set_of;
+use codec::set_naming;
 use codec::technology::NAN;
 use codec::technology::RSSI;
 use codec::technology::UWB;
@@ -20,7 +20,7 @@ pub(crate) fn halt(s: Session, set: u16, out: &mut [u8]) -> Answer
     let uwb = has(set, UWB) & (s.uwb.ranging != 0);
     let nan = has(set, NAN) & (s.nan.ranging != 0);
     let rssi = has(set, RSSI) & (s.rssi.ranging != 0);
-    let those = set_of(uwb, false, nan, rssi);
+    let those = set_naming(uwb, false, nan, rssi);
     let w = deliver(s.profile.replies, SetMessage::StopResponse, those, out);
     answered(w, 0, those)
 }

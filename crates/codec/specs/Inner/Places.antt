@@ -6,8 +6,8 @@ use mathlib.Core.Option.{Option, none, some}
 use mathlib.Core.Bool.{Bool, true, false, _&&_, not, cond}
 use lib.Dec.{leb, ltb, eqb}
 use lib.ListN.{length, getD, set, replicate}
-use Rattle.codec.specs.Refusal.{Checked, refuse, accept, demand, andThen, numberOf, numberIn, endsEarly, wrongBlock, blockTooSmall}
-use Rattle.codec.specs.Technology.{Technology, technologyId, bit, known}
+use Rattle.codec.specs.Refusal.{Checked, refuse, accept, demand, andThen, numberOf, endsEarly, wrongBlock, blockTooSmall}
+use Rattle.codec.specs.Technology.{Technology, technologyId, technologies, bit, known}
 use Rattle.codec.specs.Layout.{Layout, number, octets, counted, value, least, fault}
 use Rattle.codec.specs.Blocks.{Column, capabilities, configurations, cell, layouts}
 use Rattle.codec.specs.Table.{messageOf, Row}
@@ -16,6 +16,11 @@ use Rattle.codec.specs.Message.{Walked, walk, idOf, setOf, blockAt}
 use Rattle.codec.specs.Listing.{nthFrom}
 use Rattle.codec.specs.declared.records.Record.{Record}
 use Rattle.codec.specs.declared.records.Block.{Block}
+
+-- the number that the code gives: 0 for no refusal
+abbrev pub numberIn : {A : Type 0} → Checked A → ℕ
+numberIn (refuse x) = numberOf x
+numberIn (accept a) = 0
 
 -- the octets of a block reach past its last field, and what is counted fits its array
 abbrev pub Roomy : Layout → ℕ → List ℕ → Type 0
@@ -45,14 +50,14 @@ module _ (layouts : ℕ → Layout) (m : List ℕ) where
 abbrev pub Awaits : ℕ → (ℕ → Bool) → ℕ → Type 0
 Awaits set came awaited = (id : ℕ) → bit awaited id ≡ (bit set id && not (came id))
 
--- the layouts of the blocks of message 1, or of message 2
+-- the layouts of the blocks of message 1, or else those of message 2, as the code asks for them
 abbrev pub layoutsBy : ℕ → ℕ → Layout
 layoutsBy message = layouts (cond (eqb message 1) capabilities configurations)
 
 -- ---- five numbers: the place of each known technology's block, 0 for none, and the place after the last block
 
 abbrev pub note : ℕ → ℕ → List ℕ → List ℕ
-note id at found = cond (ltb id 4) (set found id at) found
+note id at found = cond (ltb id (length technologies)) (set found id at) found
 
 -- blocks that lie one after the other from a place on
 abbrev pub noted : List (List ℕ) → ℕ → List ℕ → List ℕ
@@ -66,7 +71,7 @@ Finds (accept w) at found f left = (f ≡ 0) × (left ≡ noted (w .blocks) at f
 
 -- a message that carries a set alone, and one with blocks
 abbrev pub setAlone : Row
-setAlone = record { times = 1; blocks = none }
+setAlone = record { times = 1; column = none }
 
 abbrev pub carriesBlocks : Option Column → Bool
 carriesBlocks none = false

@@ -33,14 +33,14 @@ blockIf true L id v = block L id v
 blockIf false L id v = []
 
 -- how many octets a block takes, where what is counted fits its array
-abbrev pub taken : (L : Layout) → Values L → ℕ
-taken [] v = 0
-taken (number x w t ∷ L) v = w + taken L (v .1)
-taken (octets x n t ∷ L) v = n + taken L (v .1)
-taken (counted y x t c ∷ L) v = 1 + v .0 + taken L (v .1 .1)
+abbrev pub fieldsSize : (L : Layout) → Values L → ℕ
+fieldsSize [] v = 0
+fieldsSize (number x w t ∷ L) v = w + fieldsSize L (v .1)
+fieldsSize (octets x n t ∷ L) v = n + fieldsSize L (v .1)
+fieldsSize (counted y x t c ∷ L) v = 1 + v .0 + fieldsSize L (v .1 .1)
 
 abbrev pub blockSize : (L : Layout) → Values L → ℕ
-blockSize L v = 2 + taken L v
+blockSize L v = 2 + fieldsSize L v
 
 -- the octets of UWB's sets of channels, preamble indexes and config IDs
 abbrev pub setOctets : UwbCapability → List ℕ
@@ -81,7 +81,7 @@ Held (number x w t ∷ L) v = Held L (v .1)
 Held (octets x n t ∷ L) v = Held L (v .1)
 Held (counted y x t c ∷ L) v = (v .0 ≤ c) × Held L (v .1 .1)
 
--- so do the key and the name of a Configuration
+-- the key and the name of a Configuration fit their arrays
 abbrev pub Fit : Configuration → Type 0
 Fit c = (t : Technology) → Held (cell configurations t) (fields configurations c t)
 

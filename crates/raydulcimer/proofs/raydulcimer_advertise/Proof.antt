@@ -4,7 +4,7 @@ use base.Logic.{id⊢}
 use Rattle.session.proofs.advertise as callee
 use Rattle.session.proofs.advertise.Symbol as callee-def
 use Rattle.session.proofs.advertise.Met as callee-thm
-use Rattle.raydulcimer.proofs.Beside.{Kind, lent}
+use Rattle.raydulcimer.proofs.Beside.{Parameter, lent}
 use Rattle.raydulcimer.proofs.ByReference.{by-reference}
 use Rattle.raydulcimer.proofs.Session.{step}
 use Rattle.raydulcimer.proofs.raydulcimer_advertise as self
@@ -13,7 +13,7 @@ use Rattle.raydulcimer.proofs.raydulcimer_advertise.Statement as stated
 use Rattle.raydulcimer.proofs.raydulcimer_advertise.Code as code
 
 -- the parameters beside the session
-abbrev beside : List (Kind 1)
+abbrev beside : List (Parameter 1)
 beside = lent 0 tt ∷ []
 
 pub raydulcimer-advertise-spec : {M : Type 1} → stated.statement M

@@ -4,7 +4,7 @@ use base.Logic.{id⊢}
 use Rattle.session.proofs.message as callee
 use Rattle.session.proofs.message.Symbol as callee-def
 use Rattle.session.proofs.message.Met as callee-thm
-use Rattle.raydulcimer.proofs.Beside.{Kind, shared, lent}
+use Rattle.raydulcimer.proofs.Beside.{Parameter, shared, lent}
 use Rattle.raydulcimer.proofs.ByReference.{by-reference}
 use Rattle.raydulcimer.proofs.Session.{step}
 use Rattle.raydulcimer.proofs.raydulcimer_message as self
@@ -13,7 +13,7 @@ use Rattle.raydulcimer.proofs.raydulcimer_message.Statement as stated
 use Rattle.raydulcimer.proofs.raydulcimer_message.Code as code
 
 -- the parameters beside the session
-abbrev beside : List (Kind 2)
+abbrev beside : List (Parameter 2)
 beside = shared 0 tt ∷ lent 1 tt ∷ []
 
 pub raydulcimer-message-spec : {M : Type 1} → stated.statement M

@@ -1,8 +1,7 @@
 use Rattle.codec.proofs.MessageCases.{blocks-stop, blocks-end}
 use Rattle.codec.proofs.WalkCases.{awaits-all}
 use Rattle.codec.specs.Message.{idOf, setOf, noId, walk, endFault}
-use Rattle.codec.specs.Inner.Places.{layoutsBy, Finds}
-use Rattle.codec.specs.Refusal.{numberIn}
+use Rattle.codec.specs.Inner.Places.{numberIn, layoutsBy, Finds}
 use lib.Count.{ones}
 use Prim.Native.Nat.{ℕ}
 use mathlib.Core.Path.{ap, _∙_}

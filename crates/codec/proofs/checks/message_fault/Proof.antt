@@ -1,10 +1,9 @@
 use Rattle.codec.proofs.MessageCases.{judged-alone}
 use mathlib.Core.Path.{refl, ap}
 use Rattle.codec.proofs.MessageCases.{six-or-seven, not-assigned}
-use Rattle.codec.specs.Refusal.{numberIn}
 use Rattle.codec.specs.Table.{assigned, Row, row}
 use Rattle.codec.specs.Message.{idOf}
-use Rattle.codec.specs.Inner.Places.{setAlone, carriesBlocks}
+use Rattle.codec.specs.Inner.Places.{numberIn, setAlone, carriesBlocks}
 use Rattle.codec.specs.Layout.{member}
 use mathlib.Core.Logic.{inl, inr, ⊎-elim}
 use mathlib.Core.Bool.{true}
@@ -55,7 +54,7 @@ returns-6 c =
     (c .before .before .before .before .before .before .before .pre)
 
 returns-7 : tie.Need-returns-7
-returns-7 c = judged-alone (ap (λ (R : Row). carriesBlocks (R .blocks)) (alone (c .before) .0)) (c .set-fault .ensures ∙ ap numberIn (parse-body _ (c .before .before .before .before .if1 .left) (c .before .before .before .if2 .left) (alone (c .before) .1))) (c .before .before .before .before .before .before .pre)
+returns-7 c = judged-alone (ap (λ (R : Row). carriesBlocks (R .column)) (alone (c .before) .0)) (c .set-fault .ensures ∙ ap numberIn (parse-body _ (c .before .before .before .before .if1 .left) (c .before .before .before .if2 .left) (alone (c .before) .1))) (c .before .before .before .before .before .before .pre)
 
 pub message-fault-spec : {M : Type 1} → statement M
 message-fault-spec =

@@ -6,17 +6,17 @@ use mathlib.Core.Path.{_∙_}
 use Rattle.codec.specs.Table.{row, blockCount}
 use Rattle.codec.specs.Message.{idOf, setOf, blocksAt}
 use Rattle.codec.specs.Inner.Places.{Passes}
-use Rattle.codec.proofs.Listed.{lists-none, lists-refused, room, passes-all, lists-message}
+use Rattle.codec.proofs.Listed.{lists-none, lists-refused, set-room, passes-all, lists-message}
 use borrow.Author.Needs.{needs}
 use Rattle.codec.proofs.listing.block.Statement.{statement}
 use Rattle.codec.proofs.listing.block.Tie as tie
 
 -- a message that is not refused has its set
 four : (c : tie.Else1) → 4 ≤ length (c .before .before .before .before .args .message .now)
-four c = room _ _ (c .before .message-fault .ensures .number) (c .if1 .left)
+four c = set-room _ _ (c .before .message-fault .ensures .number) (c .if1 .left)
 
 -- and its blocks are whole
-blocks : (c : tie.Else1) → let m = c .before .before .before .before .args .message .now in Passes m (blockCount (row (idOf m) .blocks) (setOf m)) (blocksAt (row (idOf m) .times))
+blocks : (c : tie.Else1) → let m = c .before .before .before .before .args .message .now in Passes m (blockCount (row (idOf m) .column) (setOf m)) (blocksAt (row (idOf m) .times))
 blocks c = passes-all _ _ (c .before .message-fault .ensures .number) (c .if1 .left)
 
 returns : tie.Need-returns

@@ -1,8 +1,7 @@
 use Rattle.codec.proofs.Laws.{part-length}
 use Rattle.codec.proofs.WalkCases.{sizeAt, Fits, fits-if, fields-stop, fields-next}
-use Rattle.codec.specs.Refusal.{numberIn}
 use Rattle.codec.specs.Message.{idOf}
-use Rattle.codec.specs.Inner.Places.{layoutsBy}
+use Rattle.codec.specs.Inner.Places.{numberIn, layoutsBy}
 use Prim.Native.Nat.{_+_, _≤_}
 use lib.ListN.{length, getD}
 use mathlib.Core.Path.{_≡_, _∙_}

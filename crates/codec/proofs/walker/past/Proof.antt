@@ -1,4 +1,4 @@
--- A walk of `past` by hand: the walker is taken apart, `place_after` is called on the slice and the number, and a walker is made of the same slice and the number that came back.
+-- A walk of `past` by hand: the walker is fieldsSize apart, `place_after` is called on the slice and the number, and a walker is made of the same slice and the number that came back.
 -- What the walker owns is had twice, for the callee and for the exit, and there twice again, for the parameter and for the result.
 use mathlib.Core.Path.{_≡_, refl, ap}
 use Prim.Native.Nat.{ℕ, _+_, _≤_, _<_, _^_}

@@ -1,3 +1,4 @@
+use Rattle.codec.proofs.Rows.{other-alone}
 use Rattle.codec.proofs.Pieces.{not-valid, as-response, as-settings, as-bare}
 use Rattle.codec.proofs.ValidCases.{rest-used, capability-used, configuration-used}
 use Rattle.codec.proofs.Outcomes.{and-true}
@@ -36,13 +37,13 @@ returns-4 : tie.Need-returns-4
 returns-4 c = record { typed = typed (c .before .before .before .before .before .before .before .before .before .before .before); writes = as-settings (c .before .before .before .before .before .before .before .before .before .before .before .args .value) (c .before .before .before .before .before .before .before .before .before .before .before .args .out .now) (c .before .before .before .before .before .before .before .before .if1 .left) (passed (c .before .before .before .before .before .before .before .valid-capability .ensures) (c .before .before .before .before .before .before .if3 .left)) (c .before .before .before .before .if4 .taken) (c .before .before .write-configuration .ensures) }
 
 returns-5 : tie.Need-returns-5
-returns-5 c = record { typed = typed (c .before .before .before .before .before .before .before .before .before .before .before); writes = rw (c .refused3 .ensures) (not-valid (c .before .before .before .before .before .before .before .before .before .before .before .args .value) (c .before .before .before .before .before .before .before .before .before .before .before .args .out .now) (configuration-used _ (c .before .before .before .before .before .before .before .before .if1 .left) (passed (c .before .before .before .before .before .before .before .valid-capability .ensures) (c .before .before .before .before .before .before .if3 .left)) (c .before .before .before .before .if4 .left) (failed (other (c .before .before)) (c .before .if5 .taken)))) }
+returns-5 c = record { typed = typed (c .before .before .before .before .before .before .before .before .before .before .before); writes = rw (c .refused3 .ensures) (not-valid (c .before .before .before .before .before .before .before .before .before .before .before .args .value) (c .before .before .before .before .before .before .before .before .before .before .before .args .out .now) (configuration-used _ (c .before .before .before .before .before .before .before .before .if1 .left) (passed (c .before .before .before .before .before .before .before .valid-capability .ensures) (c .before .before .before .before .before .before .if3 .left)) (other-alone _ (c .before .before .before .before .before .before .before .before .if1 .left) (c .before .before .before .before .if4 .left)) (failed (other (c .before .before)) (c .before .if5 .taken)))) }
 
 write-without-blocks-requires : tie.Need-write-without-blocks-requires
-write-without-blocks-requires c κs = (and-true (assigned (c .before .before .before .before .before .before .before .before .before .before .before .args .value .id)) _ (passed (other (c .before .before)) (c .before .if5 .left)) .0, c .before .before .before .before .before .before .before .before .if1 .left, c .before .before .before .before .if4 .left)
+write-without-blocks-requires c κs = (and-true (assigned (c .before .before .before .before .before .before .before .before .before .before .before .args .value .id)) _ (passed (other (c .before .before)) (c .before .if5 .left)) .0, other-alone _ (c .before .before .before .before .before .before .before .before .if1 .left) (c .before .before .before .before .if4 .left))
 
 returns-6 : tie.Need-returns-6
-returns-6 c = record { typed = typed (c .before .before .before .before .before .before .before .before .before .before .before .before .before .before); writes = as-bare (c .before .before .before .before .before .before .before .before .before .before .before .before .before .before .args .value) (c .before .before .before .before .before .before .before .before .before .before .before .before .before .before .args .out .now) (c .before .before .before .before .before .before .before .before .before .before .before .if1 .left) (passed (c .before .before .before .before .before .before .before .before .before .before .valid-capability .ensures) (c .before .before .before .before .before .before .before .before .before .if3 .left)) (c .before .before .before .before .before .before .before .if4 .left) (passed (other (c .before .before .before .before .before)) (c .before .before .before .before .if5 .left)) (c .before .before .write-without-blocks .ensures) }
+returns-6 c = record { typed = typed (c .before .before .before .before .before .before .before .before .before .before .before .before .before .before); writes = as-bare (c .before .before .before .before .before .before .before .before .before .before .before .before .before .before .args .value) (c .before .before .before .before .before .before .before .before .before .before .before .before .before .before .args .out .now) (c .before .before .before .before .before .before .before .before .before .before .before .if1 .left) (passed (c .before .before .before .before .before .before .before .before .before .before .valid-capability .ensures) (c .before .before .before .before .before .before .before .before .before .if3 .left)) (other-alone _ (c .before .before .before .before .before .before .before .before .before .before .before .if1 .left) (c .before .before .before .before .before .before .before .if4 .left)) (passed (other (c .before .before .before .before .before)) (c .before .before .before .before .if5 .left)) (c .before .before .write-without-blocks .ensures) }
 
 pub write-spec : {M : Type 1} → statement M
 write-spec =

@@ -7,7 +7,7 @@ use Rattle.codec.specs.Technology.{technologies}
 use Rattle.codec.specs.Inner.Puts.{columnOctets, columnSize, Fit}
 use Rattle.codec.proofs.Laws.{failed, passed}
 use Rattle.codec.specs.Blocks.{configurations}
-use Rattle.codec.specs.Records.{fields, settings}
+use Rattle.codec.specs.Records.{fields, settingsRecord}
 use Rattle.codec.specs.Valid.{validColumn}
 use native.Mathlib.Omega.{arith}
 use mathlib.Core.Bool.{Bool, true, _&&_}
@@ -32,10 +32,10 @@ long : (c : tie.Else1) → let a = c .before .before .before .args in length (co
 long c = let s = c .before .before .before in chain-size configurations (s .args .set) (fields configurations (s .args .c)) (configuration-typed (s .args .c) _ (s .good .1 .0)) (fitting c) technologies
 
 returns : tie.Need-returns
-returns c = rw (c .refused .ensures) (not-valid (settings (c .before .before .before .before .args .set) (c .before .before .before .before .args .c)) (c .before .before .before .before .args .out .now) (settings-valid _ _ ∙ failed (tested (c .before .before)) (c .before .if1 .taken)))
+returns c = rw (c .refused .ensures) (not-valid (settingsRecord (c .before .before .before .before .args .set) (c .before .before .before .before .args .c)) (c .before .before .before .before .args .out .now) (settings-valid _ _ ∙ failed (tested (c .before .before)) (c .before .if1 .taken)))
 
 returns-2 : tie.Need-returns-2
-returns-2 c = rw (c .refused2 .ensures) (too-short (settings (c .before .before .before .before .before .before .args .set) (c .before .before .before .before .before .before .args .c)) (c .before .before .before .before .before .before .args .out .now) (settings-valid _ _ ∙ holds (c .before .before .before)) (omega (arith, ap length (normal-settings (c .before .before .before .before .before .before .args .set) (c .before .before .before .before .before .before .args .c)), c .before .before .size-configuration .ensures .0, long (c .before .before .before), c .before .if2 .taken)))
+returns-2 c = rw (c .refused2 .ensures) (too-short (settingsRecord (c .before .before .before .before .before .before .args .set) (c .before .before .before .before .before .before .args .c)) (c .before .before .before .before .before .before .args .out .now) (settings-valid _ _ ∙ holds (c .before .before .before)) (omega (arith, ap length (normal-settings (c .before .before .before .before .before .before .args .set) (c .before .before .before .before .before .before .args .c)), c .before .before .size-configuration .ensures .0, long (c .before .before .before), c .before .if2 .taken)))
 
 put-configuration-requires : tie.Need-put-configuration-requires
 put-configuration-requires c κs = (omega (arith, c .before .before .before .before .before .before .before .before .before .before .size-configuration .ensures .0, long (c .before .before .before .before .before .before .before .before .before .before .before), c .before .before .before .before .before .before .before .before .before .if2 .left, c .before .before .before .before .before .before .before .put-head .ensures .place, c .before .before .before .before .before .before .before .put-head .ensures .same, c .before .before .before .put-u16 .ensures .place, c .before .before .before .put-u16 .ensures .same), fitting (c .before .before .before .before .before .before .before .before .before .before .before))
@@ -43,7 +43,7 @@ put-configuration-requires c κs = (omega (arith, c .before .before .before .bef
 returns-3 : tie.Need-returns-3
 returns-3 c =
     let k = ap length (normal-settings (c .before .before .before .before .before .before .before .before .before .before .before .before .before .before .before .before .before .args .set) (c .before .before .before .before .before .before .before .before .before .before .before .before .before .before .before .before .before .args .c)) in
-    was-written (settings (c .before .before .before .before .before .before .before .before .before .before .before .before .before .before .before .before .before .args .set) (c .before .before .before .before .before .before .before .before .before .before .before .before .before .before .before .before .before .args .c)) (c .before .before .before .before .before .before .before .before .before .before .before .before .before .before .before .before .before .args .out .now) (settings-valid _ _ ∙ holds (c .before .before .before .before .before .before .before .before .before .before .before .before .before .before)) (omega (arith, k, c .before .before .before .before .before .before .before .before .before .before .before .before .before .size-configuration .ensures .0, long (c .before .before .before .before .before .before .before .before .before .before .before .before .before .before), c .before .before .before .before .before .before .before .before .before .before .before .before .if2 .left)) _ (omega (arith, k, c .before .before .before .before .before .before .before .before .before .before .before .before .before .size-configuration .ensures .0, long (c .before .before .before .before .before .before .before .before .before .before .before .before .before .before)))
+    was-written (settingsRecord (c .before .before .before .before .before .before .before .before .before .before .before .before .before .before .before .before .before .args .set) (c .before .before .before .before .before .before .before .before .before .before .before .before .before .before .before .before .before .args .c)) (c .before .before .before .before .before .before .before .before .before .before .before .before .before .before .before .before .before .args .out .now) (settings-valid _ _ ∙ holds (c .before .before .before .before .before .before .before .before .before .before .before .before .before .before)) (omega (arith, k, c .before .before .before .before .before .before .before .before .before .before .before .before .before .size-configuration .ensures .0, long (c .before .before .before .before .before .before .before .before .before .before .before .before .before .before), c .before .before .before .before .before .before .before .before .before .before .before .before .if2 .left)) _ (omega (arith, k, c .before .before .before .before .before .before .before .before .before .before .before .before .before .size-configuration .ensures .0, long (c .before .before .before .before .before .before .before .before .before .before .before .before .before .before)))
     (put-settings (c .before .before .before .before .before .before .before .before .before .before .before .before .before .before .before .before .before .args .set) (c .before .before .before .before .before .before .before .before .before .before .before .before .before .before .before .before .before .args .c) (put-then (c .before .before .before .before .before .before .before .before .before .before .put-head .ensures) (put-then (c .before .before .before .before .before .before .put-u16 .ensures) (c .before .before .put-configuration .ensures))))
 
 pub write-configuration-spec : {M : Type 1} → statement M

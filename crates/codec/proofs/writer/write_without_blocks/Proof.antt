@@ -12,18 +12,18 @@ use Rattle.codec.proofs.writer.write_without_blocks.Statement.{statemen
 use Rattle.codec.proofs.writer.write_without_blocks.Tie as tie
 
 validity : (c : tie.Start) → valid (withoutBlocks (c .args .id) (c .args .set)) ≡ ltb (c .args .set) 16
-validity c = bare-valid (c .args .id) (c .args .set) (c .pre .0) (c .pre .1) (c .pre .2)
+validity c = bare-valid (c .args .id) (c .args .set) (c .pre .0) (c .pre .1)
 
 returns : tie.Need-returns
 returns c = rw (c .refused .ensures) (not-valid (withoutBlocks (c .before .before .before .args .id) (c .before .before .before .args .set)) (c .before .before .before .args .out .now) (validity (c .before .before .before) ∙ le-ltb (c .before .before .before .args .set) 16 (c .before .if1 .taken)))
 
 returns-2 : tie.Need-returns-2
-returns-2 c = rw (c .refused2 .ensures) (too-short (withoutBlocks (c .before .before .before .before .args .id) (c .before .before .before .before .args .set)) (c .before .before .before .before .args .out .now) (validity (c .before .before .before .before) ∙ lt-ltb (c .before .before .before .before .args .set) 16 (c .before .before .if1 .left)) (omega (arith, ap length (normal-bare (c .before .before .before .before .args .id) (c .before .before .before .before .args .set) (c .before .before .before .before .pre .1) (c .before .before .before .before .pre .2)), c .before .if2 .taken)))
+returns-2 c = rw (c .refused2 .ensures) (too-short (withoutBlocks (c .before .before .before .before .args .id) (c .before .before .before .before .args .set)) (c .before .before .before .before .args .out .now) (validity (c .before .before .before .before) ∙ lt-ltb (c .before .before .before .before .args .set) 16 (c .before .before .if1 .left)) (omega (arith, ap length (normal-bare (c .before .before .before .before .args .id) (c .before .before .before .before .args .set) (c .before .before .before .before .pre .1)), c .before .if2 .taken)))
 
 returns-3 : tie.Need-returns-3
 returns-3 c =
-    let k = normal-bare (c .before .before .before .before .before .before .before .args .id) (c .before .before .before .before .before .before .before .args .set) (c .before .before .before .before .before .before .before .pre .1) (c .before .before .before .before .before .before .before .pre .2) in
-    was-written (withoutBlocks (c .before .before .before .before .before .before .before .args .id) (c .before .before .before .before .before .before .before .args .set)) (c .before .before .before .before .before .before .before .args .out .now) (validity (c .before .before .before .before .before .before .before) ∙ lt-ltb (c .before .before .before .before .before .before .before .args .set) 16 (c .before .before .before .before .before .if1 .left)) (omega (arith, ap length k, c .before .before .before .before .if2 .left)) 4 (omega (arith, ap length k)) (put-bare (c .before .before .before .before .before .before .before .args .id) (c .before .before .before .before .before .before .before .args .set) (c .before .before .before .before .before .before .before .pre .1) (c .before .before .before .before .before .before .before .pre .2) (c .before .before .put-head .ensures))
+    let k = normal-bare (c .before .before .before .before .before .before .before .args .id) (c .before .before .before .before .before .before .before .args .set) (c .before .before .before .before .before .before .before .pre .1) in
+    was-written (withoutBlocks (c .before .before .before .before .before .before .before .args .id) (c .before .before .before .before .before .before .before .args .set)) (c .before .before .before .before .before .before .before .args .out .now) (validity (c .before .before .before .before .before .before .before) ∙ lt-ltb (c .before .before .before .before .before .before .before .args .set) 16 (c .before .before .before .before .before .if1 .left)) (omega (arith, ap length k, c .before .before .before .before .if2 .left)) 4 (omega (arith, ap length k)) (put-bare (c .before .before .before .before .before .before .before .args .id) (c .before .before .before .before .before .before .before .args .set) (c .before .before .before .before .before .before .before .pre .1) (c .before .before .put-head .ensures))
 
 pub write-without-blocks-spec : {M : Type 1} → statement M
 write-without-blocks-spec =

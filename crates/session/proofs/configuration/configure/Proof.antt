@@ -8,12 +8,12 @@ use Rattle.session.proofs.configuration.configure.Statement.{statement}
 use Rattle.session.proofs.configuration.configure.Tie as tie
 
 deliver-requires : tie.Need-deliver-requires
-deliver-requires c κs = rw (c .before .set-of .ensures) (bits-below ((c .before .before .before .before .before .eligible-uwb .result) ∷ (c .before .before .before .before .eligible-cs .result) ∷ (c .before .before .before .eligible-nan .result) ∷ (c .before .before .eligible-rssi .result) ∷ []))
+deliver-requires c κs = rw (c .before .set-naming .ensures) (bits-below ((c .before .before .before .before .before .eligible-uwb .result) ∷ (c .before .before .before .before .eligible-cs .result) ∷ (c .before .before .before .eligible-nan .result) ∷ (c .before .before .eligible-rssi .result) ∷ []))
 
 returns : tie.Need-returns
 unfolding setBy
 returns c = let s = c .before .before .before .before .before .before .before .before .before .before .before .args .s in
-    let k = rw (c .before .before .before .before .before .before .before .before .before .eligible-uwb .ensures, c .before .before .before .before .before .before .before .before .eligible-cs .ensures, c .before .before .before .before .before .before .before .eligible-nan .ensures, c .before .before .before .before .before .before .eligible-rssi .ensures) at (c .before .before .before .before .before .set-of .ensures) in
+    let k = rw (c .before .before .before .before .before .before .before .before .before .eligible-uwb .ensures, c .before .before .before .before .before .before .before .before .eligible-cs .ensures, c .before .before .before .before .before .before .before .eligible-nan .ensures, c .before .before .before .before .before .before .eligible-rssi .ensures) at (c .before .before .before .before .before .set-naming .ensures) in
     rw (c .answered .ensures, k) (settled (configure onSession (s .profile) (c .before .before .before .before .before .before .before .before .before .before .before .args .set) (c .before .before .before .before .before .before .before .before .before .before .before .args .c) s) (rw k at (c .before .before .before .deliver .ensures)))
 
 pub configure-spec : {M : Type 1} → statement M
