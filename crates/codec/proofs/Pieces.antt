@@ -12,15 +12,17 @@ use Rattle.codec.specs.Refusal.{numberOf, bufferTooShort, notValid}
 use Rattle.codec.specs.Octets.{toLE, allZero}
 use Rattle.codec.specs.Technology.{Technology, uwb, cs, nan, rssi, technologyId, technologies, names}
 use Rattle.codec.specs.Layout.{Layout, number, octets, counted, test, spelled, Values, zeroes, allowed, cleared, zeroed}
-use Rattle.codec.specs.Blocks.{csCapability, csConfiguration, Column, capabilities, configurations, cell}
+use Rattle.codec.specs.Blocks.{csCapability, uwbConfiguration, csConfiguration, nanConfiguration, Column, capabilities, configurations, cell}
 use Rattle.codec.specs.Table.{assigned, messageOf, Row, row}
 use Rattle.codec.specs.Inner.Places.{setAlone}
-use Rattle.codec.specs.Records.{fields, columnIn, ofRecord, response, only, settingsRecord, withoutBlocks, messageId, setRecord}
+use Rattle.codec.specs.Records.{ofUwbConfiguration, ofNanConfiguration, fields, columnIn, ofRecord, response, only, settingsRecord, withoutBlocks, messageId, setRecord}
 use Rattle.codec.specs.Valid.{validFields, validColumn, valid}
 use Rattle.codec.specs.WellFormed.{sets}
 use Rattle.codec.specs.NormalForm.{block, rising, columnBlocks, normal}
 use Rattle.codec.specs.Writing.{writing, Writes}
-use Rattle.codec.specs.Inner.Puts.{over, Put, blockIf, head, chain, columnOctets, Held, Fit, restZero}
+use Rattle.codec.specs.Inner.Puts.{over, Put, blockIf, blockSize, head, chain, columnOctets, Held, Fit, restZero}
+use Rattle.codec.specs.declared.uwb.UwbConfiguration.{UwbConfiguration}
+use Rattle.codec.specs.declared.nan.NanConfiguration.{NanConfiguration}
 use Rattle.codec.specs.declared.records.Capability.{Capability}
 use Rattle.codec.specs.declared.records.Configuration.{Configuration}
 use Rattle.codec.specs.declared.records.Record.{Record}
@@ -37,6 +39,13 @@ use Rattle.codec.proofs.ValidCases.{set-assigned, only-of, settings-of,
 pub cs-put : (present : Bool) (x : ℕ) (a : List ℕ) {d e : List ℕ} {at next : ℕ} → Put d at (blockIf present csCapability 1 (x, (a, tt))) e next → Put d at (blockIf present csConfiguration 1 (x, (a, tt))) e next
 cs-put true x a p = p
 cs-put false x a p = p
+
+-- what the blocks of a Configuration with a key and with a name take
+pub uwb-size : (v : UwbConfiguration) → 19 + v .«key_length» ≡ blockSize uwbConfiguration (ofUwbConfiguration v)
+uwb-size v = omega arith
+
+pub nan-size : (v : NanConfiguration) → 5 + v .«name_length» ≡ blockSize nanConfiguration (ofNanConfiguration v)
+nan-size v = omega arith
 
 -- ---- the normal form by message
 

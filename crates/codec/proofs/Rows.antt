@@ -30,18 +30,14 @@ times-two id = go (eqb id 2)
 
 -- the blocks of a message: those of its column, or none
 pub data Carries (id : ℕ) : Option Column → Type 0 where
-  nothing : ((k : Column) → eqb id (messageOf k) ≡ false) → Carries id none
+  nothing : Carries id none
   column : (k : Column) → id ≡ messageOf k → Carries id (some k)
 
 pub carries : (id : ℕ) → Carries id (row id .column)
 carries id =
     by-bool (eqb id 1)
     (λ y. rw y (column capabilities (eqb-true id 1 y)))
-    (λ n. by-bool (eqb id 2) (λ y. rw (n, y) (column configurations (eqb-true id 2 y))) (λ m. rw (n, m) (nothing (neither n m))))
-  where
-    neither : eqb id 1 ≡ false → eqb id 2 ≡ false → (k : Column) → eqb id (messageOf k) ≡ false
-    neither n m capabilities = n
-    neither n m configurations = m
+    (λ n. by-bool (eqb id 2) (λ y. rw (n, y) (column configurations (eqb-true id 2 y))) (λ m. rw (n, m) nothing))
 
 pub column-there : (id : ℕ) (k : Column) → eqb id (messageOf k) ≡ true → row id .column ≡ some k
 column-there id capabilities e = rw e

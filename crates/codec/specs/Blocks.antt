@@ -17,7 +17,7 @@ slot = between 1 2
 abbrev pub periodic : Test
 periodic = between 0 1
 
--- ---- what one field allows that the code tests by a function of its own
+-- ---- what UWB's configuration allows besides
 
 abbrev pub keyLength : Test
 keyLength = oneOf (8 ∷ 16 ∷ 32 ∷ [])

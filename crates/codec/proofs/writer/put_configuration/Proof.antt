@@ -1,5 +1,5 @@
 use Rattle.codec.proofs.Types.{configuration-typed}
-use Rattle.codec.proofs.Pieces.{cs-put}
+use Rattle.codec.proofs.Pieces.{cs-put, uwb-size, nan-size}
 use Rattle.codec.proofs.Puts.{Room, room-first, room-others, put-chain, put-last}
 use Rattle.codec.specs.Technology.{Technology, uwb, cs, nan, rssi, technologies}
 use Rattle.codec.specs.Layout.{Typed}
@@ -7,19 +7,9 @@ use Rattle.codec.specs.Blocks.{configurations, cell}
 use Rattle.codec.specs.Records.{fields}
 use Rattle.codec.specs.Inner.Puts.{chain}
 use mathlib.Core.List.{[], _∷_}
-use native.Mathlib.Omega.{arith}
-use Prim.Native.Nat.{ℕ, _+_}
-use mathlib.Core.Path.{_≡_}
 use borrow.Author.Needs.{needs}
 use Rattle.codec.proofs.writer.put_configuration.Statement.{statement}
 use Rattle.codec.proofs.writer.put_configuration.Tie as tie
-
--- how much is to be written of UWB and of NAN
-uwb-size : (k : ℕ) → 19 + k ≡ 2 + (2 + (4 + (1 + (1 + (1 + (2 + (1 + (1 + k + (2 + (1 + (1 + 0)))))))))))
-uwb-size k = omega arith
-
-nan-size : (n : ℕ) → 5 + n ≡ 2 + (1 + n + (1 + (1 + 0)))
-nan-size n = omega arith
 
 typed : (s : tie.Start) (t : Technology) → Typed (cell configurations t) (fields configurations (s .args .c) t)
 typed s = configuration-typed (s .args .c) _ (s .good .1 .0)
@@ -38,13 +28,13 @@ after-nan : (c : tie.After-put-configuration2) → let s = c .before .before .be
 after-nan c = let s = c .before .before .before .before .before .before .before .before .before .before .before .before .before .before .before in room-others configurations (s .args .set) (fields configurations (s .args .c)) (typed s) (s .pre .1) nan (rssi ∷ []) (after-cs (c .before .before .before .before .before)) (c .before .before .has3 .ensures) (c .put-configuration2 .ensures)
 
 put-configuration-requires : tie.Need-put-configuration-requires
-put-configuration-requires c κs = let s = c .before .before .before .before in (rw (uwb-size (s .args .c .uwb .«key_length»)) (room-first configurations (s .args .set) (fields configurations (s .args .c)) (typed s) (s .pre .1) uwb (cs ∷ nan ∷ rssi ∷ []) (room s) (c .before .has .ensures)), s .pre .1 uwb .0)
+put-configuration-requires c κs = let s = c .before .before .before .before in (rw (uwb-size (s .args .c .uwb)) (room-first configurations (s .args .set) (fields configurations (s .args .c)) (typed s) (s .pre .1) uwb (cs ∷ nan ∷ rssi ∷ []) (room s) (c .before .has .ensures)), s .pre .1 uwb .0)
 
 put-block-requires : tie.Need-put-block-requires
 put-block-requires c κs = let s = c .before .before .before .before .before .before .before .before .before in room-first configurations (s .args .set) (fields configurations (s .args .c)) (typed s) (s .pre .1) cs (nan ∷ rssi ∷ []) (after-uwb (c .before .before .before .before)) (c .before .has2 .ensures)
 
 put-configuration-requires-2 : tie.Need-put-configuration-requires-2
-put-configuration-requires-2 c κs = let s = c .before .before .before .before .before .before .before .before .before .before .before .before .before .before in (rw (nan-size (s .args .c .nan .«name_length»)) (room-first configurations (s .args .set) (fields configurations (s .args .c)) (typed s) (s .pre .1) nan (rssi ∷ []) (after-cs (c .before .before .before .before)) (c .before .has3 .ensures)), s .pre .1 nan .0)
+put-configuration-requires-2 c κs = let s = c .before .before .before .before .before .before .before .before .before .before .before .before .before .before in (rw (nan-size (s .args .c .nan)) (room-first configurations (s .args .set) (fields configurations (s .args .c)) (typed s) (s .pre .1) nan (rssi ∷ []) (after-cs (c .before .before .before .before)) (c .before .has3 .ensures)), s .pre .1 nan .0)
 
 put-block-requires-2 : tie.Need-put-block-requires-2
 put-block-requires-2 c κs = let s = c .before .before .before .before .before .before .before .before .before .before .before .before .before .before .before .before .before .before .before in room-first configurations (s .args .set) (fields configurations (s .args .c)) (typed s) (s .pre .1) rssi ([]) (after-nan (c .before .before .before .before)) (c .before .has4 .ensures)
