@@ -240,7 +240,7 @@ struct raydulcimer_written raydulcimer_write(struct raydulcimer_record value, ui
 
 /* The n-th block, counted from 0, of a Capability Response or a Configuration that raydulcimer_read accepts, blocks of unknown
    technologies among them, in the order of the message. None past the last block, for other messages and for refused ones. */
-struct raydulcimer_block raydulcimer_block(const uint8_t *message, size_t length, size_t n);
+struct raydulcimer_block raydulcimer_nth_block(const uint8_t *message, size_t length, size_t n);
 
 /* Starts a session for a tag with this profile, a valid record of a Capability Response (no technology at all is valid), and
    one of the three choices of explicit replies. It ranges with nothing. RAYDULCIMER_NOT_VALID for any other record or choice. */

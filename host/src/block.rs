@@ -13,7 +13,7 @@ pub struct Block {
 }
 
 extern "C" {
-    fn raydulcimer_block(message: *const u8, length: usize, n: usize) -> Block;
+    fn raydulcimer_nth_block(message: *const u8, length: usize, n: usize) -> Block;
 }
 
 /// The n-th block, counted from 0, of a Capability Response or a Configuration that [`read`](crate::read) accepts, blocks of
@@ -21,7 +21,7 @@ extern "C" {
 /// ones.
 pub fn block(message: &[u8], n: usize) -> Option<Block> {
     // SAFETY: a slice's pointer is not null and leads to its length of octets, which nobody writes to meanwhile.
-    let block = unsafe { raydulcimer_block(message.as_ptr(), message.len(), n) };
+    let block = unsafe { raydulcimer_nth_block(message.as_ptr(), message.len(), n) };
     (block.place != 0).then_some(block)
 }
 

@@ -106,7 +106,7 @@ int main(void)
         octets(out, written.length);
 
         for (size_t n = 0; n < 6; n++) {
-            struct raydulcimer_block block = raydulcimer_block(message, length, n);
+            struct raydulcimer_block block = raydulcimer_nth_block(message, length, n);
             show_block(&block);
         }
 

@@ -32,7 +32,7 @@ pub extern "C" fn raydulcimer_write(value: Record, out: &mut [u8]) -> Written
 
 // The n-th block of a message, from 0, for diagnosis.
 #[no_mangle]
-pub extern "C" fn raydulcimer_block(message: &[u8], n: usize) -> Block
+pub extern "C" fn raydulcimer_nth_block(message: &[u8], n: usize) -> Block
     ensures { λ r. ⌜ r ≡ nthBlock (now (message .entry)) n ⌝ }
 {
     codec::block(message, n)
