@@ -55,21 +55,6 @@ static const char *const messages[] = {
     [RAYDULCIMER_STOP] = "Stop",
 };
 
-static const char *const refusals[] = {
-    [RAYDULCIMER_TOO_LONG] = "the message has more than 256 octets",
-    [RAYDULCIMER_ENDS_EARLY] = "it ends before a field or block that its layout needs",
-    [RAYDULCIMER_RESERVED_ID] = "its ID is reserved",
-    [RAYDULCIMER_WRONG_VERSION] = "version 0, or above 1 with an ID other than 0 and 1",
-    [RAYDULCIMER_SETS_DIFFER] = "the two sets of a Configuration differ",
-    [RAYDULCIMER_BLOCK_TOO_SMALL] = "a block's size is below its need",
-    [RAYDULCIMER_WRONG_BLOCK] = "a block's ID has no bit in the set, or came before",
-    [RAYDULCIMER_NOT_ALLOWED] = "a field is not allowed",
-    [RAYDULCIMER_LEFT_OVER] = "octets are left over in version 1",
-    [RAYDULCIMER_NOT_FOR_TAG] = "the message is not one that a tag is sent",
-    [RAYDULCIMER_BUFFER_TOO_SHORT] = "the buffer is shorter than the reply",
-    [RAYDULCIMER_NOT_VALID] = "the profile is not valid",
-};
-
 /* A record of a bench log: direction, zero, length in two octets, low first, the message, zeros to the end. */
 enum { TO_TAG = 0, FROM_TAG = 1, HEAD = 4, RECORD = HEAD + RAYDULCIMER_MESSAGE_LIMIT };
 
@@ -121,14 +106,14 @@ static void print_ranging(const struct raydulcimer_session *session)
    session, and ends what `answer.stopped` names; this tag prints them. */
 static void receive(struct raydulcimer_session *session, const uint8_t *message, size_t length, FILE *log)
 {
-    uint8_t reply[RAYDULCIMER_MESSAGE_LIMIT];
+    uint8_t reply[RAYDULCIMER_LONGEST_REPLY];
     struct raydulcimer_answer answer = raydulcimer_message(session, message, length, reply, sizeof reply);
 
     write_log(log, TO_TAG, message, length);
     if (answer.length > 0) write_log(log, FROM_TAG, reply, answer.length);
 
     if (answer.refusal != RAYDULCIMER_OK) {
-        printf("refused: %s (%d)", refusals[answer.refusal], answer.refusal);
+        printf("refused %d: %s", answer.refusal, raydulcimer_refusal_words(answer.refusal));
     } else {
         printf("%s:", messages[message[1]]);
         if (message[1] == RAYDULCIMER_CONFIGURATION) print_set("set", answer.set);
@@ -166,13 +151,13 @@ static int serve(struct raydulcimer_session *session, FILE *log)
     return status;
 }
 
-/* Starts the session and advertises; false if the profile is refused. No advertisement is longer than the limit. */
+/* Starts the session and advertises; false if the profile is refused. The buffer has room for every advertisement. */
 static bool begin(struct raydulcimer_session *session, FILE *log)
 {
-    uint8_t message[RAYDULCIMER_MESSAGE_LIMIT];
+    uint8_t message[RAYDULCIMER_LONGEST_REPLY];
     struct raydulcimer_started started = raydulcimer_start(profile, RAYDULCIMER_REPLIES_ON);
     if (started.refusal != RAYDULCIMER_OK) {
-        fprintf(stderr, "tag: the start is refused: %s (%d)\n", refusals[started.refusal], started.refusal);
+        fprintf(stderr, "tag: the start is refused: %s\n", raydulcimer_refusal_words(started.refusal));
         return false;
     }
     *session = started.session;

@@ -223,16 +223,6 @@ fn header_and_bindings_agree() {
 }
 
 #[test]
-fn header_is_one_for_cpp_too() {
-    let header = format!("{}/../include/raydulcimer.h", env!("CARGO_MANIFEST_DIR"));
-    let checked = Command::new("g++")
-        .args(["-fsyntax-only", "-Wall", "-Wextra", "-Werror", "-x", "c++"])
-        .arg(header)
-        .status();
-    assert!(checked.expect("g++").success());
-}
-
-#[test]
 fn capability_fields_have_their_octets() {
     let record = read(&octets(MESSAGES[0])).unwrap();
     let (uwb, cs, nan) = (record.capability.uwb, record.capability.cs, record.capability.nan);
