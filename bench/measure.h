@@ -96,11 +96,15 @@ __attribute__((unused)) static int mixed(void (*call)(void))
     return calls;
 }
 
-/* What the second implementation returns is handed on without looking into it; it has fewer octets. */
+/* What the second implementation returns is handed on without looking into it; each has fewer octets. */
 struct second_reading {
     uint8_t octets[256];
 };
+struct second_session {
+    uint8_t octets[256];
+};
 struct second_reading second_read(const uint8_t *message, size_t length);
+struct second_session second_start(const struct second_reading *profile, uint8_t replies);
 
 static ucontext_t here, there;
 static uint8_t stack[1 << 16];

@@ -8,13 +8,9 @@
    Response is walked before it is refused. */
 #include "measure.h"
 
-struct second_session {
-    uint8_t octets[256];
-};
 struct second_answer {
     uint8_t octets[32];
 };
-struct second_session second_start(const struct second_reading *profile, uint8_t replies);
 struct second_answer second_message(struct second_session *session, const uint8_t *octets, size_t length, uint8_t *out,
                                     size_t room);
 struct second_answer second_advertise(struct second_session *session, uint8_t *out, size_t room);

@@ -1,6 +1,6 @@
-//! The second implementation's calls for C. The benchmark hands the reading on without looking into it.
+//! The second implementation's calls for C. The benchmark hands what they return on without looking into it.
 #![allow(improper_ctypes_definitions)]
-use second::{read, start, write, Answer, Record, Refusal, Session};
+use second::{blocks, read, start, write, Answer, Block, Record, Refusal, Session};
 use std::slice::{from_raw_parts, from_raw_parts_mut};
 
 type Reading = Result<Record, Refusal>;
@@ -20,6 +20,13 @@ pub unsafe extern "C" fn second_write(reading: &Reading, out: *mut u8, length: u
         Ok(record) => write(record, from_raw_parts_mut(out, length)).unwrap_or(0),
         Err(_) => 0,
     }
+}
+
+/// # Safety
+/// The pointer leads to `length` octets.
+#[no_mangle]
+pub unsafe extern "C" fn second_nth_block(message: *const u8, length: usize, n: usize) -> Option<Block> {
+    blocks(from_raw_parts(message, length)).nth(n)
 }
 
 /// # Safety
