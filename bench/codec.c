@@ -22,7 +22,7 @@ static struct second_block block_second;
 static struct raydulcimer_started started;
 static struct second_session started_second;
 static uint8_t out[RAYDULCIMER_MESSAGE_LIMIT];
-static size_t count;
+static size_t block_count;
 
 /* With the same arguments and results as the measured calls, and no stack of their own. */
 static struct raydulcimer_reading no_read(const uint8_t *m, size_t n) { (void)m, (void)n; return reading; }
@@ -65,8 +65,8 @@ static void call_read(void) { reading = read(message, length); }
 static void call_write(void) { written = write(reading.value, out, sizeof out); }
 static void call_second_read(void) { second = read_second(message, length); }
 static void call_second_write(void) { written.length = write_second(&second, out, sizeof out); }
-static void call_block(void) { block = nth_block(message, length, count); }
-static void call_second_block(void) { block_second = nth_block_second(message, length, count); }
+static void call_block(void) { block = nth_block(message, length, block_count); }
+static void call_second_block(void) { block_second = nth_block_second(message, length, block_count); }
 static void call_start(void) { started = start(reading.value, RAYDULCIMER_REPLIES_NOT_SAID); }
 static void call_second_start(void) { started_second = start_second(&second, RAYDULCIMER_REPLIES_NOT_SAID); }
 
@@ -100,7 +100,7 @@ int main(int argc, char **argv)
         fprintf(stderr, "usage: codec call|stack|time proved|second read|write|nth_block|start NAME\n");
         return 2;
     }
-    if (!many) count = __builtin_popcount(message[2] | message[3] << 8);
+    if (!many) block_count = __builtin_popcount(message[2] | message[3] << 8);
     void (*read_first)(void) = named("read", proved);
     if (measured != read_first) read_first();
     void (*all)(void) = many ? call_mixed : measured;
