@@ -2,14 +2,14 @@
 //!
 //! A [`Session`](crate::Session) holds only what a start and its calls have made. Here a session may hold any numbers, and
 //! an answer is seen whole, a refused one too.
-use crate::{Capability, NanConfiguration, Record, Rssi, UwbConfiguration};
+use crate::{Capability, NanConfiguration, Record, Rssi, Technologies, UwbConfiguration};
 
 /// What a tag can do: the set and the capability of a valid Capability Response, and a choice of explicit replies.
 #[derive(Clone, Copy, PartialEq, Eq, Debug, Default)]
 #[repr(C)]
 #[allow(missing_docs)]
 pub struct Profile {
-    pub set: u16,
+    pub set: Technologies,
     /// 0 not said, 1 on, 2 off
     pub replies: u8,
     pub capability: Capability,
@@ -41,17 +41,19 @@ pub struct Session {
 
 /// A refusal's number, length 0 and two empty sets; or 0 and what [`Answer`](crate::Answer) has.
 #[derive(Clone, Copy, PartialEq, Eq, Debug, Default)]
+#[must_use = "the call may have been refused, or there is a reply to send"]
 #[repr(C)]
 #[allow(missing_docs)]
 pub struct Answer {
     pub refusal: u8,
     pub length: usize,
-    pub set: u16,
-    pub stopped: u16,
+    pub set: Technologies,
+    pub stopped: Technologies,
 }
 
 /// 0 and a fresh session with the profile, or a refusal's number and one with an empty profile.
 #[derive(Clone, Copy, PartialEq, Eq, Debug, Default)]
+#[must_use = "the session is in it"]
 #[repr(C)]
 #[allow(missing_docs)]
 pub struct Started {

@@ -1,6 +1,8 @@
 //! Records, laid out as the library and `include/raydulcimer.h` have them.
 //!
-//! A record given to [`write`](crate::write) may hold anything; the comments name what is allowed in a valid one.
+//! A record given to [`write`](crate::write()) may hold anything; the comments name what is allowed in a valid one.
+use crate::{MessageId, Refusal, Technologies};
+use core::fmt;
 
 macro_rules! kinds {
     ($($(#[$doc:meta])* $name:ident($of:ty);)*) => {$(
@@ -72,8 +74,8 @@ pub struct Rssi {
     pub address: [u8; 6],
 }
 
-/// UWB's block of message 2.
-#[derive(Clone, Copy, PartialEq, Eq, Debug, Default)]
+/// UWB's block of message 2. `Debug` does not print the key.
+#[derive(Clone, Copy, PartialEq, Eq, Default)]
 #[repr(C)]
 #[allow(missing_docs)]
 pub struct UwbConfiguration {
@@ -88,7 +90,7 @@ pub struct UwbConfiguration {
     pub slot: u8,
     /// 8, 16, 32
     pub key_length: u8,
-    /// zero past the key length
+    /// zero past the key length; [`key()`](UwbConfiguration::key()) has the key alone
     pub key: [u8; 32],
     /// letters A to Z
     pub country: [u8; 2],
@@ -96,6 +98,57 @@ pub struct UwbConfiguration {
     pub role: u8,
     /// 1, 2
     pub mode: u8,
+}
+
+impl UwbConfiguration {
+    /// The key: as many octets as the key length says, and all 32 if it says more.
+    #[must_use]
+    pub fn key(&self) -> &[u8] {
+        first(&self.key, self.key_length)
+    }
+
+    /// Sets key and key length, and zeros past the key. Whether the length is allowed is said by [`write`](crate::write()).
+    ///
+    /// # Errors
+    ///
+    /// [`Refusal::NotValid`] for more than 32 octets; nothing is set.
+    pub fn set_key(&mut self, key: &[u8]) -> Result<(), Refusal> {
+        self.key_length = put(&mut self.key, key)?;
+        Ok(())
+    }
+}
+
+impl fmt::Debug for UwbConfiguration {
+    fn fmt(&self, f: &mut fmt::Formatter<'_>) -> fmt::Result {
+        // Each field by name, so that a new one cannot be forgotten here.
+        let UwbConfiguration {
+            address,
+            session_id,
+            config_id,
+            channel,
+            preamble_index,
+            interval,
+            slot,
+            key_length,
+            key: _,
+            country,
+            role,
+            mode,
+        } = self;
+        f.debug_struct("UwbConfiguration")
+            .field("address", address)
+            .field("session_id", session_id)
+            .field("config_id", config_id)
+            .field("channel", channel)
+            .field("preamble_index", preamble_index)
+            .field("interval", interval)
+            .field("slot", slot)
+            .field("key", &format_args!("[{key_length} octets]"))
+            .field("country", country)
+            .field("role", role)
+            .field("mode", mode)
+            .finish()
+    }
 }
 
 /// CS's block of message 2.
@@ -115,7 +168,7 @@ pub struct CsConfiguration {
 pub struct NanConfiguration {
     /// 1 to 64
     pub name_length: u8,
-    /// zero past the name length
+    /// zero past the name length; [`name()`](NanConfiguration::name()) has the name alone
     pub name: [u8; 64],
     /// 0, 1
     pub role: u8,
@@ -132,6 +185,38 @@ impl Default for NanConfiguration {
             periodic: 0,
         }
     }
+}
+
+impl NanConfiguration {
+    /// The name: as many octets as the name length says, and all 64 if it says more.
+    #[must_use]
+    pub fn name(&self) -> &[u8] {
+        first(&self.name, self.name_length)
+    }
+
+    /// Sets name and name length, and zeros past the name. Whether the length is allowed is said by
+    /// [`write`](crate::write()).
+    ///
+    /// # Errors
+    ///
+    /// [`Refusal::NotValid`] for more than 64 octets; nothing is set.
+    pub fn set_name(&mut self, name: &[u8]) -> Result<(), Refusal> {
+        self.name_length = put(&mut self.name, name)?;
+        Ok(())
+    }
+}
+
+/// The first octets of a field, and all of it if the length is above its own.
+fn first(field: &[u8], length: u8) -> &[u8] {
+    field.get(..length.into()).unwrap_or(field)
+}
+
+/// Puts octets at the start of a field and zeros after them, and returns how many they are.
+fn put(field: &mut [u8], octets: &[u8]) -> Result<u8, Refusal> {
+    let (start, rest) = field.split_at_mut_checked(octets.len()).ok_or(Refusal::NotValid)?;
+    start.copy_from_slice(octets);
+    rest.fill(0);
+    Ok(octets.len() as u8)
 }
 
 /// The blocks of message 1. The fields of a technology that the record does not have are zero.
@@ -160,10 +245,10 @@ pub struct Configuration {
 #[derive(Clone, Copy, PartialEq, Eq, Debug, Default)]
 #[repr(C)]
 pub struct Record {
-    /// The message ID: 0, 1, 2, 3, 6 or 7.
-    pub id: u8,
-    /// The technologies: bit 0 UWB, 1 CS, 2 NAN, 3 RSSI.
-    pub set: u16,
+    /// The message's ID, which is not reserved.
+    pub id: MessageId,
+    /// The technologies, without reserved bits.
+    pub set: Technologies,
     /// Zero but in message 1.
     pub capability: Capability,
     /// Zero but in message 2.

@@ -1,4 +1,5 @@
 //! The refusals, with their numbers and words.
+use core::{error, fmt};
 
 /// Why a call was refused.
 #[derive(Clone, Copy, PartialEq, Eq, Debug)]
@@ -47,11 +48,13 @@ impl Refusal {
     ];
 
     /// The number that the library gives.
+    #[must_use]
     pub fn number(self) -> u8 {
         self as u8
     }
 
     /// The refusal in words.
+    #[must_use]
     pub fn words(self) -> &'static str {
         match self {
             Refusal::TooLong => "the message has more than 256 octets",
@@ -81,10 +84,23 @@ impl Refusal {
     }
 }
 
-impl std::fmt::Display for Refusal {
-    fn fmt(&self, f: &mut std::fmt::Formatter<'_>) -> std::fmt::Result {
+impl fmt::Display for Refusal {
+    fn fmt(&self, f: &mut fmt::Formatter<'_>) -> fmt::Result {
         write!(f, "refused {}: {}", self.number(), self.words())
     }
 }
 
-impl std::error::Error for Refusal {}
+impl error::Error for Refusal {}
+
+/// With the feature `std`. A fault of the caller's own record or buffer is [`InvalidInput`](std::io::ErrorKind::InvalidInput),
+/// any other one is the message's and [`InvalidData`](std::io::ErrorKind::InvalidData).
+#[cfg(feature = "std")]
+impl From<Refusal> for std::io::Error {
+    fn from(refusal: Refusal) -> Self {
+        let kind = match refusal {
+            Refusal::BufferTooShort | Refusal::NotValid => std::io::ErrorKind::InvalidInput,
+            _ => std::io::ErrorKind::InvalidData,
+        };
+        std::io::Error::new(kind, refusal)
+    }
+}

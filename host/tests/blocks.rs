@@ -1,5 +1,5 @@
 //! The listing of blocks.
-use raydulcimer::{block, blocks, Block};
+use raydulcimer::{block, blocks, Block, Technologies};
 
 /// A reserved block, RSSI's with an octet more than it needs, and CS's.
 const RESPONSE: [u8; 28] = [
@@ -26,6 +26,8 @@ fn blocks_of_a_response() {
         },
     ];
     assert!(blocks(&RESPONSE).eq(listed));
+    let technologies = [Technologies(0x10), Technologies::RSSI, Technologies::CS];
+    assert!(blocks(&RESPONSE).map(|block| block.technology()).eq(technologies));
     assert_eq!(block(&RESPONSE, 2), Some(listed[2]));
     for n in [3, 4, 255, 256, 1 << 16, 1 << 32, usize::MAX] {
         assert_eq!(block(&RESPONSE, n), None);
@@ -57,4 +59,16 @@ fn refused_messages() {
     }
     let left_over = [&RESPONSE[..], &[0]].concat();
     assert_eq!(block(&left_over, 0), None);
+}
+
+#[test]
+fn technology_of_any_id() {
+    for id in 0..=255 {
+        let block = Block {
+            id,
+            ..Default::default()
+        };
+        let bits = if id < 16 { 1 << id } else { 0 };
+        assert_eq!(block.technology(), Technologies(bits));
+    }
 }

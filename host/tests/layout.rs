@@ -3,8 +3,8 @@
 use raydulcimer::raw::{self, Profile, Started, State};
 use raydulcimer::{
     block, read, write, Block, Capability, Channel, Channels, ConfigId, ConfigIds, Configuration, CsCapability,
-    CsConfiguration, NanCapability, NanConfiguration, PreambleIndex, PreambleIndexes, Record, Refusal, Replies, Rssi,
-    UwbCapability, UwbConfiguration, MESSAGE_LIMIT,
+    CsConfiguration, MessageId, NanCapability, NanConfiguration, PreambleIndex, PreambleIndexes, Record, Refusal,
+    Replies, Rssi, Technologies, UwbCapability, UwbConfiguration, MESSAGE_LIMIT,
 };
 use std::fmt::Write;
 use std::io::Write as _;
@@ -226,7 +226,7 @@ fn header_and_bindings_agree() {
 fn capability_fields_have_their_octets() {
     let record = read(&octets(MESSAGES[0])).unwrap();
     let (uwb, cs, nan) = (record.capability.uwb, record.capability.cs, record.capability.nan);
-    assert_eq!((record.id, record.set), (1, 15));
+    assert_eq!((record.id, record.set), (MessageId(1), Technologies(15)));
     assert_eq!(uwb.address, [0x10, 0x11]);
     assert_eq!(
         (uwb.channels.0, uwb.preamble_indexes.0, uwb.config_ids.0),
@@ -253,7 +253,7 @@ fn configuration_fields_have_their_octets() {
         record.configuration.cs,
         record.configuration.nan,
     );
-    assert_eq!((record.id, record.set), (2, 15));
+    assert_eq!((record.id, record.set), (MessageId(2), Technologies(15)));
     assert_eq!((uwb.address, uwb.session_id), ([0x30, 0x31], 0x35343332));
     assert_eq!((uwb.config_id.0, uwb.channel.0, uwb.preamble_index.0), (4, 9, 11));
     assert_eq!((uwb.interval, uwb.slot, uwb.key_length), (600, 2, 32));
@@ -288,7 +288,7 @@ fn session_fields_have_their_octets() {
     let mut session = raw::start(&profile, 2).session;
     let fresh = raw::Session {
         profile: Profile {
-            set: 15,
+            set: Technologies(15),
             replies: 2,
             capability: profile.capability,
         },
@@ -297,7 +297,7 @@ fn session_fields_have_their_octets() {
     assert_eq!(session, fresh);
     let answer = session.message(&octets(MESSAGES[1]), &mut []);
     assert_eq!(
-        (answer.refusal, answer.length, answer.set, answer.stopped),
+        (answer.refusal, answer.length, answer.set.0, answer.stopped.0),
         (0, 0, 15, 0)
     );
     let ranging = raw::Session {
@@ -318,7 +318,7 @@ fn session_fields_have_their_octets() {
     assert_eq!(session, ranging);
     let answer = session.message(&octets(MESSAGES[2]), &mut []);
     assert_eq!(
-        (answer.refusal, answer.length, answer.set, answer.stopped),
+        (answer.refusal, answer.length, answer.set.0, answer.stopped.0),
         (0, 0, 0, 9)
     );
     let stopped = raw::Session {

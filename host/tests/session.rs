@@ -1,5 +1,7 @@
 //! Sessions through the safe face: the rules' examples, and each call's part of the state.
-use raydulcimer::{raw, read, Answer, ConfigId, Record, Refusal, Replies, Session, MESSAGE_LIMIT};
+use raydulcimer::{
+    raw, read, Answer, ConfigId, MessageId, Record, Refusal, Replies, Session, Technologies, MESSAGE_LIMIT,
+};
 
 const RSSI_ONLY: [u8; 12] = [1, 1, 8, 0, 3, 8, 0xA1, 0xA2, 0xA3, 0xA4, 0xA5, 0xA6];
 
@@ -21,12 +23,12 @@ fn started(profile: &[u8], replies: Replies) -> Session {
     Session::start(&read(profile).unwrap(), replies).unwrap()
 }
 
-/// Gives a message and returns the reply, what was set and what was stopped.
+/// Gives a message and returns the reply, and the bits of what was set and of what was stopped.
 fn give(session: &mut Session, message: &[u8]) -> Result<(Vec<u8>, u16, u16), Refusal> {
     let mut out = [0x55; MESSAGE_LIMIT];
     let Answer { length, set, stopped } = session.message(message, &mut out)?;
     assert!(out[length..].iter().all(|octet| *octet == 0x55));
-    Ok((out[..length].to_vec(), set, stopped))
+    Ok((out[..length].to_vec(), set.0, stopped.0))
 }
 
 #[test]
@@ -45,7 +47,7 @@ fn profile_of_rssi_only() {
 #[test]
 fn all_four_technologies() {
     let mut session = started(&ALL_FOUR, Replies::On);
-    assert_eq!(session.profile().set, 15);
+    assert_eq!(session.profile().set, Technologies::ALL);
     assert_eq!(session.profile().replies, 1);
     assert_eq!(session.profile().capability, read(&ALL_FOUR).unwrap().capability);
     assert_eq!((session.uwb(), session.nan(), session.rssi()), (None, None, None));
@@ -94,7 +96,11 @@ fn uwb_after_a_stop() {
         let answer = give_out(&mut session, &mut out).unwrap();
         assert_eq!(
             (answer.length, answer.set, answer.stopped),
-            (if advertised { 47 } else { 24 }, 0, 0)
+            (
+                if advertised { 47 } else { 24 },
+                Technologies::EMPTY,
+                Technologies::EMPTY
+            )
         );
         assert_eq!(out[4..24], ALL_FOUR[4..24]);
         assert!(!session.mark());
@@ -105,9 +111,9 @@ fn uwb_after_a_stop() {
 fn replies_off() {
     let mut session = started(&ALL_FOUR, Replies::Off);
     let answer = session.message(&CONFIGURATION, &mut []).unwrap();
-    assert_eq!((answer.length, answer.set, answer.stopped), (0, 15, 0));
+    assert_eq!((answer.length, answer.set.0, answer.stopped.0), (0, 15, 0));
     let answer = session.message(&[1, 6, 15, 0], &mut []).unwrap();
-    assert_eq!((answer.length, answer.set, answer.stopped), (0, 0, 13));
+    assert_eq!((answer.length, answer.set.0, answer.stopped.0), (0, 0, 13));
     assert_eq!(session.advertise(&mut [0; 46]), Err(Refusal::BufferTooShort));
     assert_eq!(session.advertise(&mut [0; 47]).unwrap().length, 47);
 }
@@ -138,9 +144,18 @@ fn profiles_that_are_not_valid() {
     let profile = read(&ALL_FOUR).unwrap();
     let not_valid = [
         Record::default(),
-        Record { id: 3, ..profile },
-        Record { set: 31, ..profile },
-        Record { set: 7, ..profile },
+        Record {
+            id: MessageId::CONFIGURATION_RESPONSE,
+            ..profile
+        },
+        Record {
+            set: Technologies(31),
+            ..profile
+        },
+        Record {
+            set: Technologies(7),
+            ..profile
+        },
     ];
     for record in not_valid {
         assert_eq!(Session::start(&record, Replies::On), Err(Refusal::NotValid));
@@ -161,7 +176,10 @@ fn forged_sessions() {
     session.uwb.ranging = 7;
     session.nan.settings.role = 9;
     let answer = session.message(&[1, 6, 15, 0], &mut [0; 4]);
-    assert_eq!((answer.refusal, answer.length, answer.stopped), (0, 4, 1));
+    assert_eq!(
+        (answer.refusal, answer.length, answer.stopped),
+        (0, 4, Technologies::UWB)
+    );
     assert_eq!((session.uwb, session.mark), (raw::State::default(), 1));
 
     session.profile.replies = 3;

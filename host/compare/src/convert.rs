@@ -74,8 +74,8 @@ blocks!(to_configuration, of_configuration, Configuration, [
 pub fn to_library(r: &plain::Record) -> proved::Record {
     let (capability, configuration) = (to_capability(&r.capability), to_configuration(&r.configuration));
     proved::Record {
-        id: r.id,
-        set: r.set,
+        id: proved::MessageId(r.id),
+        set: proved::Technologies(r.set),
         capability,
         configuration,
     }
@@ -84,8 +84,8 @@ pub fn to_library(r: &plain::Record) -> proved::Record {
 pub fn of_library(r: &proved::Record) -> plain::Record {
     let (capability, configuration) = (of_capability(&r.capability), of_configuration(&r.configuration));
     plain::Record {
-        id: r.id,
-        set: r.set,
+        id: r.id.0,
+        set: r.set.0,
         capability,
         configuration,
     }
@@ -94,7 +94,7 @@ pub fn of_library(r: &proved::Record) -> plain::Record {
 pub fn of_session(s: &proved::raw::Session) -> plain::Session {
     plain::Session {
         profile: plain::Profile {
-            set: s.profile.set,
+            set: s.profile.set.0,
             replies: s.profile.replies,
             capability: of_capability(&s.profile.capability),
         },
@@ -117,8 +117,8 @@ pub fn to_answer(answer: Result<plain::Answer, plain::Refusal>) -> proved::raw::
         Ok(answer) => proved::raw::Answer {
             refusal: 0,
             length: answer.length,
-            set: answer.set,
-            stopped: answer.stopped,
+            set: proved::Technologies(answer.set),
+            stopped: proved::Technologies(answer.stopped),
         },
         Err(refusal) => proved::raw::Answer {
             refusal: refusal.number(),

@@ -76,11 +76,12 @@ impl Forged {
             fault.put(random, &mut profile, &mut replies);
         }
         let settings = to_library(&any_record(random)).configuration;
+        let proved = to_library(&profile);
         let session = raw::Session {
             profile: raw::Profile {
-                set: profile.set,
+                set: proved.set,
                 replies,
-                capability: to_library(&profile).capability,
+                capability: proved.capability,
             },
             uwb: any_state(random, settings.uwb),
             nan: any_state(random, settings.nan),

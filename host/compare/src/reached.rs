@@ -81,6 +81,11 @@ impl Step<'_> {
         message.get(2).map_or(0, |low| u16::from(low & 15))
     }
 
+    /// What the session's profile has.
+    fn profile(&self) -> u16 {
+        self.before.profile.set.0
+    }
+
     fn mark(&self) -> bool {
         self.before.mark != 0
     }
@@ -175,13 +180,13 @@ impl Reached {
             (length, room) if length == room => self.count(ExactRoom(kind)),
             _ => self.count(MoreRoom(kind)),
         }
-        if answer.set | answer.stopped != 0 {
+        if !(answer.set | answer.stopped).is_empty() {
             let replies = before.profile.replies;
             self.count(Done { kind, replies });
         }
         match kind {
-            Request => self.given_out(step, kind, step.named() & before.profile.set),
-            Advertisement => self.given_out(step, kind, before.profile.set),
+            Request => self.given_out(step, kind, step.named() & step.profile()),
+            Advertisement => self.given_out(step, kind, step.profile()),
             Configuration => self.configured(step),
             Stop => self.stopped(step),
         }
@@ -207,11 +212,11 @@ impl Reached {
     }
 
     fn configured(&mut self, step: &Step) {
-        let (before, after, set) = (step.before, step.after, step.answer.set);
+        let (before, after, set) = (step.before, step.after, step.answer.set.0);
         self.count(Set(set));
         for technology in (0..4).filter(|t| has(step.named(), *t)) {
             let ranging = flag(before, technology) != 0;
-            if !has(before.profile.set, technology) {
+            if !has(step.profile(), technology) {
                 self.count(NamedOutsideProfile(technology));
             } else if has(set, technology) {
                 if ranging && !same_settings(before, after, technology) {
@@ -231,12 +236,12 @@ impl Reached {
             }
         }
         if let Some(aim) = &step.call.aim {
-            self.aimed(step, aim.within & before.profile.set, aim.broken);
+            self.aimed(step, aim.within & step.profile(), aim.broken);
         }
     }
 
     fn aimed(&mut self, step: &Step, within: u16, broken: Option<Rule>) {
-        let (before, named) = (step.before, step.named() & step.before.profile.set);
+        let (before, named) = (step.before, step.named() & step.profile());
         if step.mark() && has(within, 0) {
             self.count(MarkHolds);
             if before.mark > 1 {
@@ -258,7 +263,7 @@ impl Reached {
     }
 
     fn stopped(&mut self, step: &Step) {
-        let (before, set) = (step.before, step.answer.stopped);
+        let (before, set) = (step.before, step.answer.stopped.0);
         self.count(Stopped(set));
         if has(set, 0) {
             self.count(MarkComes);
@@ -270,7 +275,7 @@ impl Reached {
             if has(set, technology) && flag(before, technology) > 1 {
                 self.count(HighFlagStopped(technology));
             }
-            if has(set, technology) && !has(before.profile.set, technology) {
+            if has(set, technology) && !has(step.profile(), technology) {
                 self.count(StoppedOutsideProfile(technology));
             }
             if has(step.named(), technology) && idle_settings(before, technology) {

@@ -5,6 +5,7 @@ use crate::lists::{Call, List};
 use crate::pair::Pair;
 use crate::random::Random;
 use crate::reached::{Reached, Step};
+use raydulcimer::Technologies;
 
 /// After so many lists with a difference the rest is only counted.
 const SHOWN: u64 = 3;
@@ -74,9 +75,9 @@ impl Sessions {
             self.accepted += 1;
             if let Some(aim) = &call.aim {
                 let held = u16::from(before.mark != 0);
-                let due = aim.within & before.profile.set & !held;
+                let due = Technologies(aim.within & !held) & before.profile.set;
                 if answer.set != due {
-                    return Err(format!("both set {:X}, and {due:X} is due", answer.set));
+                    return Err(format!("both set {}, and {due} is due", answer.set));
                 }
             }
         }
@@ -101,10 +102,11 @@ fn show(list: &List, difference: &Difference) {
     let (profile, mut out) = (to_library(&list.profile), [0; raydulcimer::MESSAGE_LIMIT]);
     match raydulcimer::write(&profile, &mut out) {
         Ok(length) => println!("  start with {}, replies {}", hex(&out[..length]), list.replies),
-        Err(_) => println!("  start with {profile:X?}, replies {}", list.replies),
+        Err(_) => println!("  start with {:X?}, replies {}", list.profile, list.replies),
     }
     if let Some(forged) = &list.forged {
-        println!("  forged {:X?}", forged.session);
+        let key = hex(&forged.session.uwb.settings.key);
+        println!("  forged {:X?} with the key {key}", forged.session);
     }
     for call in &list.calls[..*calls] {
         match &call.message {

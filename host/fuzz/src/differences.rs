@@ -62,7 +62,7 @@ fn call(checker: &mut Checker, calls: &Calls) {
         }
         for call in &calls.calls {
             done += 1;
-            pair.call(call.message.as_deref(), call.room.into(), call.filling)?;
+            let _ = pair.call(call.message.as_deref(), call.room.into(), call.filling)?;
         }
         Ok(())
     };
