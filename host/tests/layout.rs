@@ -197,11 +197,10 @@ fn seen_from_rust() -> String {
 fn seen_from_c() -> String {
     let here = env!("CARGO_MANIFEST_DIR");
     let program = format!("{}/layout-from-c", env!("CARGO_TARGET_TMPDIR"));
-    let folder = std::env::var("RAYDULCIMER_LIBRARY").unwrap_or(format!("{here}/../target/staticlib"));
-    let sources = [format!("{here}/tests/layout.c"), format!("{folder}/libraydulcimer.a")];
+    let source = format!("{here}/tests/layout.c");
     let built = Command::new("gcc")
         .args(["-std=c99", "-pedantic", "-Wall", "-Wextra", "-Werror", "-o", &program])
-        .args(sources)
+        .args([&source, env!("RAYDULCIMER_ARCHIVE")])
         .status();
     assert!(built.expect("gcc").success());
     let mut run = Command::new(program)
