@@ -14,7 +14,7 @@ pub struct Block {
 }
 
 impl Block {
-    /// Its technology as a set of one. No set has a bit for an ID above 15, and [`block()`] gives none.
+    /// Its technology as a set of one. It is empty for an ID above 15, which no block of a message has.
     #[must_use]
     pub fn technology(&self) -> Technologies {
         Technologies(1u16.checked_shl(self.id.into()).unwrap_or(0))
