@@ -132,12 +132,10 @@ fn expected() -> String {
 
 #[test]
 fn lengths_and_words_are_true_in_every_standard() {
-    let folder = std::env::var("RAYDULCIMER_LIBRARY").unwrap_or(format!("{HERE}/../target/staticlib"));
-    let archive = format!("{folder}/libraydulcimer.a");
     for (compiler, standards) in COMPILERS {
         for standard in standards {
             let program = format!("{}/header{standard}", env!("CARGO_TARGET_TMPDIR"));
-            let words = [standard, "-o", &program, "-x", "none", &archive];
+            let words = [standard, "-o", &program, "-x", "none", env!("RAYDULCIMER_ARCHIVE")];
             compile(compiler, &[&STRICT[..], &words].concat(), include_str!("header.c")).unwrap();
             let said = Command::new(&program).output().unwrap().stdout;
             assert_eq!(String::from_utf8(said).unwrap(), expected(), "{standard}");

@@ -2,7 +2,7 @@
 use crate::mixtures;
 use crate::random::Random;
 use crate::shapes::{every, Block, Shape};
-use second::{log_record, LogRecord, FROM_TAG, LOG_HEAD, LOG_RECORD_SIZE, MAX_MESSAGE, TO_TAG};
+use second::{log_record, log_records, LogRecord, FROM_TAG, LOG_HEAD, LOG_RECORD_SIZE, MAX_MESSAGE, TO_TAG};
 
 const DIRECTIONS: [u8; 2] = [TO_TAG, FROM_TAG];
 
@@ -170,12 +170,12 @@ impl Log {
     }
 
     pub fn entries(&self) -> impl Iterator<Item = Entry> + '_ {
-        let (records, _) = self.octets.as_chunks();
+        let (records, _) = log_records(&self.octets);
         let entry = |(octets, broken): (&LogRecord, &Option<Way>)| Entry {
             octets: *octets,
             broken: *broken,
         };
-        records.iter().zip(&self.ways).map(entry)
+        records.zip(&self.ways).map(entry)
     }
 
     /// How many records there are.

@@ -16,7 +16,7 @@ pub fn list(mut input: impl Read, output: impl Write) -> io::Result<()> {
     let (mut accepted, mut refused) = (0u64, 0u64);
     loop {
         let filled = fill(&mut input, &mut buffer)?;
-        let (records, tail) = buffer[..filled].as_chunks();
+        let (records, tail) = log_records(&buffer[..filled]);
         for record in records {
             let number = accepted + refused;
             let (direction, reading) = reading(record);

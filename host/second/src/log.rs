@@ -14,6 +14,13 @@ pub const LOG_RECORD_SIZE: usize = LOG_HEAD + MAX_MESSAGE;
 
 pub type LogRecord = [u8; LOG_RECORD_SIZE];
 
+/// The whole records of a log, and the octets after them.
+pub fn log_records(log: &[u8]) -> (impl Iterator<Item = &LogRecord>, &[u8]) {
+    let records = log.chunks_exact(LOG_RECORD_SIZE);
+    let tail = records.remainder();
+    (records.map(|record| record.try_into().unwrap()), tail)
+}
+
 /// The log record of a message that is not too long.
 pub fn log_record(direction: u8, message: &[u8]) -> LogRecord {
     let [low, high] = (message.len() as u16).to_le_bytes();

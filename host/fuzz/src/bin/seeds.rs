@@ -7,7 +7,7 @@ use compare::random::Random;
 use compare::shapes::{of_each_set, Shape};
 use compare::{corpus, mixtures, named};
 use fuzz::case::{Call, Calls, Case, Forged};
-use second::{logged, read, Configuration, Record, LOG_RECORD_SIZE, MAX_MESSAGE, TO_TAG};
+use second::{log_records, logged, read, Configuration, Record, MAX_MESSAGE, TO_TAG};
 use std::path::{Path, PathBuf};
 use std::process::ExitCode;
 use std::{env, fs, io};
@@ -121,8 +121,8 @@ fn of_list(list: &List) -> Case {
 
 /// The messages of a bench log, and those to the tag as calls. The log begins with the tag's advertisement.
 fn of_log(log: &[u8]) -> Vec<Case> {
-    let (records, _) = log.as_chunks::<LOG_RECORD_SIZE>();
-    let messages: Vec<_> = records.iter().filter_map(logged).collect();
+    let (records, _) = log_records(log);
+    let messages: Vec<_> = records.filter_map(logged).collect();
     let call = |message: Option<&[u8]>| Call {
         message: message.map(<[u8]>::to_vec),
         room: 255,
