@@ -16,7 +16,8 @@ fn main() -> ExitCode {
         eprintln!("usage: samples FOLDER");
         return ExitCode::from(2);
     };
-    match write(Path::new(folder)) {
+    let folder = Path::new(folder);
+    match write(folder) {
         Ok(()) => ExitCode::SUCCESS,
         Err(error) => {
             eprintln!("samples: {}: {error}", folder.display());
