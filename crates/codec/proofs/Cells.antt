@@ -31,10 +31,6 @@ cell-fits = by-cell (λ L. fits L ≡ true) refl refl refl refl refl refl refl
 pub cell-short : (k : Column) (t : Technology) → most (cell k t) ≤ 100
 cell-short = by-cell (λ L. most L ≤ 100) (omega arith) (omega arith) (omega arith) (omega arith) (omega arith) (omega arith) (omega arith)
 
--- a block of 20 zeros has zero fields
-pub cell-zeros : (k : Column) (t : Technology) → (value (cell k t) 2 (replicate 20 0) ≡ zeroes (cell k t)) × Roomy (cell k t) 2 (replicate 20 0)
-cell-zeros = by-cell (λ L. (value L 2 (replicate 20 0) ≡ zeroes L) × Roomy L 2 (replicate 20 0)) (refl, omega arith) (refl, omega arith) (refl, omega arith) (refl, omega arith) (refl, omega arith) (refl, omega arith) (refl, omega arith)
-
 -- ---- layouts by ID
 
 pub layout-of : (k : Column) (t : Technology) → layouts k (technologyId t) ≡ cell k t

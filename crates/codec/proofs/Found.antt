@@ -1,12 +1,12 @@
 -- The places that the walk keeps are those of its blocks, and the record that they give is the message's.
-use Prim.Native.Nat.{ℕ, zero, suc, _+_, _≤_}
+use Prim.Native.Nat.{ℕ, zero, suc, _+_, _≤_, _<_}
 use native.Mathlib.Omega.{arith}
 use mathlib.Core.Path.{_≡_, refl, sym, ap, _∙_, subst, fun-ext}
 use mathlib.Core.Option.{Option, some}
 use mathlib.Core.Bool.{Bool, true, false, cond}
-use mathlib.Core.List.{List, [], _∷_}
+use mathlib.Core.List.{List, [], _∷_, _++_}
 use lib.Dec.{leb, ltb, eqb}
-use lib.ListN.{length, getD, set, replicate, getD-replicate, length-set}
+use lib.ListN.{length, getD, set, drop, getD-replicate, length-set, length-drop, take-append-drop}
 use lib.Seq.{getD-set-same, getD-set-other}
 use borrow.Author.Tests.{eqb-true, eqb-false, eq-eqb, ne-eqb, lt-ltb, not-true, leb-true}
 use Rattle.codec.specs.Refusal.{Checked, refuse, accept, andThen, tooLong, endsEarly, reservedId, wrongVersion, setsDiffer}
@@ -17,10 +17,10 @@ use Rattle.codec.specs.Table.{messageLimit, assigned, readable, messageO
 use Rattle.codec.specs.Records.{make, answer, accepted, refused}
 use Rattle.codec.specs.Message.{versionOf, idOf, setOf, setsAgree, blocksAt, blockAt, also, noId, blockFault, Walked, prepend, walk, endFault, blocksFrom, afterHead, body, parse, fieldsIn, recordOf, reading}
 use Rattle.codec.specs.WellFormed.{Whole, Each}
-use Rattle.codec.specs.Inner.Places.{numberIn, Roomy, note, noted, carriesBlocks, Judged, blockOrZeros, columnFound, Placed, recordAt}
+use Rattle.codec.specs.Inner.Places.{numberIn, Roomy, noPlace, noPlaces, note, noted, carriesBlocks, Judged, fieldsAt, columnFound, recordAt}
 use Rattle.codec.proofs.Outcomes.{by-bool, by-number, and-true, or-false, demanded, chained}
-use Rattle.codec.proofs.Layouts.{roomy}
-use Rattle.codec.proofs.Cells.{cell-fits, cell-zeros, layout-of, technology-below}
+use Rattle.codec.proofs.Layouts.{sound-roomy, roomy-from, value-before, fields-there, no-fields}
+use Rattle.codec.proofs.Cells.{cell-fits, layout-of, technology-below}
 use Rattle.codec.proofs.Rows.{times-one, column-there, none-named}
 use Rattle.codec.proofs.WalkCases.{Sound, sound}
 use Rattle.codec.proofs.Walks.{walked}
@@ -31,13 +31,6 @@ module _ (k : Column) (set₀ : ℕ) (m : List ℕ) (t : Technology) where
 
   abbrev id : ℕ
   id = technologyId t
-
-  -- a whole block of this technology stands at a place
-  record Stands (p : ℕ) : Type 0 where
-    there : p ≡ 0 → ⊥
-    two : p + 2 ≤ length m
-    whole : p + getD m (p + 1) 0 ≤ length m
-    roomy : Roomy L 2 (blockAt m p)
 
   noted-other : (new at : ℕ) (found : List ℕ) → (id ≡ new → ⊥) → getD (note new at found) id 0 ≡ getD found id 0
   noted-other new at found n = go (ltb new 4)
@@ -56,22 +49,19 @@ module _ (k : Column) (set₀ : ℕ) (m : List ℕ) (t : Technology) where
       go true = length-set found new at ∙ l
       go false = l
 
-  stands : (came : ℕ → Bool) (at : ℕ) → (at ≡ 0 → ⊥) → Sound (layouts k) set₀ m came at → getD m at 0 ≡ id → Stands at
-  stands came at z s e = record {
-    there = z;
-    two = s .two;
-    whole = s .whole;
-    roomy = subst (λ (K : Layout). Roomy K 2 (blockAt m at)) (ap (layouts k) e ∙ layout-of k t) (roomy (layouts k (getD m at 0)) (rw (e, layout-of k t) (cell-fits k t)) 2 (blockAt m at) (rw (s .size) (s .enough)) (s .fields));
-  }
+  roomy-here : (came : ℕ → Bool) (at : ℕ) → Sound (layouts k) set₀ m came at → getD m at 0 ≡ id → Roomy L 2 (blockAt m at)
+  roomy-here came at s e =
+      subst (λ (K : Layout). Roomy K 2 (blockAt m at)) (ap (layouts k) e ∙ layout-of k t)
+      (sound-roomy (layouts k (getD m at 0)) (rw (e, layout-of k t) (cell-fits k t)) 2 (blockAt m at) (rw (s .size) (s .enough)) (s .fields))
 
   -- where blocks that lie from a place on are noted: as before, if none is this technology's, or where its one block stands
   data Told (came : ℕ → Bool) (at : ℕ) (found : List ℕ) (blocks : List (List ℕ)) : Type 0 where
     absent : getD (noted blocks at found) id 0 ≡ getD found id 0 → fieldsIn L id blocks ≡ zeroes L → Told came at found blocks
-    present : {p : ℕ} → getD (noted blocks at found) id 0 ≡ p → came id ≡ false → Stands p → fieldsIn L id blocks ≡ value L 2 (blockAt m p) → Told came at found blocks
+    present : {p : ℕ} → getD (noted blocks at found) id 0 ≡ p → came id ≡ false → Roomy L 2 (blockAt m p) → fieldsIn L id blocks ≡ value L 2 (blockAt m p) → Told came at found blocks
 
-  told-next : (came : ℕ → Bool) (at : ℕ) (found : List ℕ) (blocks : List (List ℕ)) → (at ≡ 0 → ⊥) → length found ≡ 5 → Sound (layouts k) set₀ m came at
+  told-next : (came : ℕ → Bool) (at : ℕ) (found : List ℕ) (blocks : List (List ℕ)) → length found ≡ 5 → Sound (layouts k) set₀ m came at
       → Told (also (getD m at 0) came) (at + getD m (at + 1) 0) (note (getD m at 0) at found) blocks → Told came at found (blockAt m at ∷ blocks)
-  told-next came at found blocks z l s t =
+  told-next came at found blocks l s t =
       let b = blockAt m at in
       let new = getD m at 0 in
       let same : noted (b ∷ blocks) at found ≡ noted blocks (at + getD m (at + 1) 0) (note new at found) = λ i. noted blocks (at + s .size i) (note (s .first i) at found) in
@@ -85,7 +75,7 @@ module _ (k : Column) (set₀ : ℕ) (m : List ℕ) (t : Technology) where
           (λ y.
           let i : getD m at 0 ≡ id = eqb-true _ _ y in
           let c : came (getD m at 0) ≡ false = not-true _ (and-true (bit set₀ (getD m at 0)) _ (s .comes) .1) in
-          present (p ∙ rw i (noted-same at found l)) (rw i at c) (stands came at z s i) (rw (s .first, y)))
+          present (p ∙ rw i (noted-same at found l)) (rw i at c) (roomy-here came at s i) (rw (s .first, y)))
           (λ n.
           let d = eqb-false _ _ n in
           absent (p ∙ noted-other (getD m at 0) at found (λ q. d (sym q))) (rw (s .first, n) f))
@@ -94,36 +84,33 @@ module _ (k : Column) (set₀ : ℕ) (m : List ℕ) (t : Technology) where
           let n : eqb (getD m at 0) id ≡ false = ne-eqb (getD m at 0) id (λ q. eqb-false id (getD m at 0) (d .0) (sym q)) in
           present (ap (λ (l : List ℕ). getD l id 0) same ∙ e) (d .1) h (rw (s .first, n) f)
 
-  told : (n : ℕ) (came : ℕ → Bool) (at : ℕ) (found : List ℕ) (w : Walked) → (at ≡ 0 → ⊥) → length found ≡ 5 → walk (layouts k) set₀ m n came at ≡ accept w → Told came at found (w .blocks)
+  told : (n : ℕ) (came : ℕ → Bool) (at : ℕ) (found : List ℕ) (w : Walked) → length found ≡ 5 → walk (layouts k) set₀ m n came at ≡ accept w → Told came at found (w .blocks)
   unfolding walk
-  told zero came at found w z l e =
+  told zero came at found w l e =
       let q : _≡_ {A = Walked} (record { blocks = []; end = at }) w = cc in
       subst (λ (w : Walked). Told came at found (w .blocks)) q (absent (getD-set-other found 4 id at 0 (λ d. omega (arith, technology-below t))) refl)
-  told (suc n) came at found w z l e =
+  told (suc n) came at found w l e =
       chained (blockFault (layouts k) set₀ m came at) _ w e λ u a e₁.
       chained (walk (layouts k) set₀ m n (also (getD m at 0) came) (at + getD m (at + 1) 0)) _ w e₁ λ w₁ e₂ e₃.
       let s = sound (layouts k) set₀ m came at a in
       let q : prepend (blockAt m at) w₁ ≡ w = cc in
       subst (λ (w : Walked). Told came at found (w .blocks)) q
-      (told-next came at found (w₁ .blocks) z l s (told n (also (getD m at 0) came) (at + getD m (at + 1) 0) (note (getD m at 0) at found) w₁ (λ d. z (omega arith)) (noted-length (getD m at 0) at found l) e₂))
+      (told-next came at found (w₁ .blocks) l s (told n (also (getD m at 0) came) (at + getD m (at + 1) 0) (note (getD m at 0) at found) w₁ (noted-length (getD m at 0) at found l) e₂))
 
-  -- what the reader rests on at the place that it kept, and what it finds there
-  pub record Kept (blocks : List (List ℕ)) (at : ℕ) : Type 0 where
-    pub whole : (at ≡ 0 → ⊥) → (at + 2 ≤ length m) × (at + getD m (at + 1) 0 ≤ length m)
-    pub roomy : Roomy L 2 (blockOrZeros m at)
-    pub fields : value L 2 (blockOrZeros m at) ≡ fieldsIn L id blocks
+  block-there : (at : ℕ) → Roomy L 2 (blockAt m at) → fieldsAt L m at ≡ value L 2 (blockAt m at)
+  block-there at h =
+      let rest = drop (getD m (at + 1) 0) (drop at m) in
+      let e : blockAt m at ++ rest ≡ drop at m = take-append-drop (getD m (at + 1) 0) (drop at m) in
+      let q = value-before L 2 (blockAt m at) rest h in
+      fields-there L m at (subst (Roomy L 2) e (q .0)) ∙ ap (value L 2) (sym e) ∙ q .1
 
-  kept : (blocks : List (List ℕ)) (at : ℕ) → Told noId at (replicate 5 0) blocks → Kept blocks (getD (noted blocks at (replicate 5 0)) id 0)
-  kept blocks at (absent f g) =
-      let z : getD (noted blocks at (replicate 5 0)) id 0 ≡ 0 = f ∙ getD-replicate 5 id 0 0 (omega (arith, technology-below t)) in
-      let zeros = cell-zeros k t in
-      rw z (record { whole = λ n. absurd (n refl); roomy = zeros .1; fields = zeros .0 ∙ sym g })
-  kept blocks at (present {p} f c s g) =
-      let b : blockOrZeros m p ≡ blockAt m p = rw (ne-eqb p 0 (s .there)) in
-      rw f (record { whole = λ n. (s .two, s .whole); roomy = rw b (s .roomy); fields = rw b (sym g) })
+  kept : (blocks : List (List ℕ)) (at : ℕ) → length m < noPlace → Told noId at noPlaces blocks → fieldsAt L m (getD (noted blocks at noPlaces) id 0) ≡ fieldsIn L id blocks
+  kept blocks at h (absent f g) = rw (f ∙ getD-replicate 5 id noPlace 0 (omega (arith, technology-below t))) (no-fields L m noPlace (λ r. omega (arith, h, roomy-from L 2 (drop noPlace m) r, length-drop noPlace m)) ∙ sym g)
+  kept blocks at h (present {p} f c s g) = rw f (block-there p s ∙ sym g)
 
-  pub keeps : (n at : ℕ) (w : Walked) → (at ≡ 0 → ⊥) → walk (layouts k) set₀ m n noId at ≡ accept w → Kept (w .blocks) (getD (noted (w .blocks) at (replicate 5 0)) id 0)
-  keeps n at w z e = kept (w .blocks) at (told n noId at (replicate 5 0) w z refl e)
+  -- what the reader finds at the place that the walk kept
+  pub keeps : (n at : ℕ) (w : Walked) → length m < noPlace → walk (layouts k) set₀ m n noId at ≡ accept w → fieldsAt L m (getD (noted (w .blocks) at noPlaces) id 0) ≡ fieldsIn L id (w .blocks)
+  keeps n at w h e = kept (w .blocks) at h (told n noId at noPlaces w refl e)
 
 -- ---- an accepted message
 
@@ -185,26 +172,19 @@ module _ (m : List ℕ) (blocks : List (List ℕ)) (e : parse m ≡ accept block
   walked-column : (k : Column) → idOf m ≡ messageOf k → walk (layouts k) (setOf m) m (blockCount (some k) (setOf m)) noId start ≡ accept (record { blocks = blocks; end = p .end })
   walked-column k h = subst (λ (c : Option Column). walk (layoutsOf c) (setOf m) m (blockCount c (setOf m)) noId start ≡ accept (record { blocks = blocks; end = p .end })) (column-there (idOf m) k (eq-eqb (idOf m) (messageOf k) h)) (p .walked)
 
-  kept-here : (k : Column) → idOf m ≡ messageOf k → (t : Technology) → Kept k (setOf m) m t blocks (getD (noted blocks start (replicate 5 0)) (technologyId t) 0)
-  kept-here k h t = keeps k (setOf m) m t (blockCount (some k) (setOf m)) start (record { blocks = blocks; end = p .end }) (λ z. omega (arith, times-one (idOf m))) (walked-column k h)
+  kept-here : (k : Column) → idOf m ≡ messageOf k → (t : Technology) → fieldsAt (cell k t) m (getD (noted blocks start noPlaces) (technologyId t) 0) ≡ fieldsIn (cell k t) (technologyId t) blocks
+  kept-here k h t = keeps k (setOf m) m t (blockCount (some k) (setOf m)) start (record { blocks = blocks; end = p .end }) (omega (arith, p .limit)) (walked-column k h)
 
   -- a technology that is not in the set has no fields
   absent-zero : (k : Column) → idOf m ≡ messageOf k → (t : Technology) → names (setOf m) t ≡ false → fieldsIn (cell k t) (technologyId t) blocks ≡ zeroes (cell k t)
   absent-zero k h t n = no-block k (setOf m) t blocks (walked (layouts k) (setOf m) m (blockCount (some k) (setOf m)) noId start (record { blocks = blocks; end = p .end }) (p .sets) (walked-column k h) .whole) n
 
-  module _ (found : List ℕ) (f : carriesBlocks (row (idOf m) .column) ≡ true → found ≡ noted blocks start (replicate 5 0)) where
-    places : (k : Column) → idOf m ≡ messageOf k → found ≡ noted blocks start (replicate 5 0)
+  module _ (found : List ℕ) (f : carriesBlocks (row (idOf m) .column) ≡ true → found ≡ noted blocks start noPlaces) where
+    places : (k : Column) → idOf m ≡ messageOf k → found ≡ noted blocks start noPlaces
     places k h = f (ap carriesBlocks (column-there (idOf m) k (eq-eqb (idOf m) (messageOf k) h)))
 
-    placed : length found ≡ 5 → (k : Column) → idOf m ≡ messageOf k → Placed k m found
-    placed l k h = record {
-      whole = λ t. rw (places k h) (kept-here k h t .whole);
-      roomy = λ t. rw (places k h) (kept-here k h t .roomy);
-      size = l;
-    }
-
-    fields-found : (k : Column) → idOf m ≡ messageOf k → (t : Technology) → value (cell k t) 2 (blockOrZeros m (getD found (technologyId t) 0)) ≡ cond (names (setOf m) t) (fieldsIn (cell k t) (technologyId t) blocks) (zeroes (cell k t))
-    fields-found k h t = rw (places k h, kept-here k h t .fields) (by-bool (names (setOf m) t) (λ n. rw n) (λ n. rw n (absent-zero k h t n)))
+    fields-found : (k : Column) → idOf m ≡ messageOf k → (t : Technology) → fieldsAt (cell k t) m (getD found (technologyId t) 0) ≡ cond (names (setOf m) t) (fieldsIn (cell k t) (technologyId t) blocks) (zeroes (cell k t))
+    fields-found k h t = rw (places k h, kept-here k h t) (by-bool (names (setOf m) t) (λ n. rw n) (λ n. rw n (absent-zero k h t n)))
 
     -- the column that the places give is the message's
     column-found : (k : Column) → columnFound m found k ≡ make k (λ t. cond (names (setIn (idOf m) (setOf m) k) t) (fieldsIn (cell k t) (technologyId t) blocks) (zeroes (cell k t)))
@@ -223,16 +203,14 @@ module _ (m : List ℕ) (blocks : List (List ℕ)) (e : parse m ≡ accept block
 -- what the places of a message say in which the order of checks finds no fault
 pub record Found (m found : List ℕ) : Type 0 where
   pub four : 4 ≤ length m
-  pub placed : (k : Column) → idOf m ≡ messageOf k → Placed k m found
   pub reads : accepted (recordAt m found) ≡ answer (reading m)
 
-pub found-by : (m : List ℕ) → {f : ℕ} {found : List ℕ} → Judged (carriesBlocks (row (idOf m) .column)) (parse m) (blocksAt (row (idOf m) .times)) (replicate 5 0) f found → f ≡ 0 → Found m found
+pub found-by : (m : List ℕ) → {f : ℕ} {found : List ℕ} → Judged (carriesBlocks (row (idOf m) .column)) (parse m) (blocksAt (row (idOf m) .times)) noPlaces f found → f ≡ 0 → Found m found
 found-by m {f} {found} j z =
     by-number (parse m) (sym (j .number) ∙ z) λ blocks e.
-    let places : carriesBlocks (row (idOf m) .column) ≡ true → found ≡ noted blocks (blocksAt (row (idOf m) .times)) (replicate 5 0) = λ k. j .places k blocks e in
+    let places : carriesBlocks (row (idOf m) .column) ≡ true → found ≡ noted blocks (blocksAt (row (idOf m) .times)) noPlaces = λ k. j .places k blocks e in
     record {
       four = four m blocks e;
-      placed = placed m blocks e found places (j .size);
       reads = reads m blocks e found places;
     }
 

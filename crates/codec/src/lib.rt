@@ -6,6 +6,7 @@ mod listing;
 pub mod message;
 mod nan;
 mod octets;
+mod places;
 mod reader;
 mod records;
 pub mod refusal;

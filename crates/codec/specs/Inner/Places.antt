@@ -5,10 +5,10 @@ use mathlib.Core.List.{List, [], _∷_}
 use mathlib.Core.Option.{Option, none, some}
 use mathlib.Core.Bool.{Bool, true, false, _&&_, not, cond}
 use lib.Dec.{leb, ltb, eqb}
-use lib.ListN.{length, getD, set, replicate}
+use lib.ListN.{length, getD, set, drop, replicate}
 use Rattle.codec.specs.Refusal.{Checked, refuse, accept, demand, andThen, numberOf, endsEarly, wrongBlock, blockTooSmall}
 use Rattle.codec.specs.Technology.{Technology, technologyId, technologies, bit, known}
-use Rattle.codec.specs.Layout.{Layout, number, octets, counted, value, least, fault}
+use Rattle.codec.specs.Layout.{Layout, number, octets, counted, Values, zeroes, value, least, fault}
 use Rattle.codec.specs.Blocks.{Column, capabilities, configurations, cell, layouts}
 use Rattle.codec.specs.Table.{messageOf, Row}
 use Rattle.codec.specs.Records.{StructOf, make, blank}
@@ -22,7 +22,14 @@ abbrev pub numberIn : {A : Type 0} → Checked A → ℕ
 numberIn (refuse x) = numberOf x
 numberIn (accept a) = 0
 
--- the octets of a block reach past its last field, and what is counted fits its array
+-- whether octets reach past the last field of a block, and what is counted fits its array
+abbrev pub roomy : Layout → ℕ → List ℕ → Bool
+roomy [] at s = leb at (length s)
+roomy (number x w t ∷ L) at s = roomy L (at + w) s
+roomy (octets x n t ∷ L) at s = roomy L (at + n) s
+roomy (counted y x t c ∷ L) at s = leb (getD s at 0) c && roomy L (at + 1 + getD s at 0) s
+
+-- they do
 abbrev pub Roomy : Layout → ℕ → List ℕ → Type 0
 Roomy [] at s = at ≤ length s
 Roomy (number x w t ∷ L) at s = Roomy L (at + w) s
@@ -54,7 +61,14 @@ Awaits set came awaited = (id : ℕ) → bit awaited id ≡ (bit set id && not (
 abbrev pub layoutsBy : ℕ → ℕ → Layout
 layoutsBy message = layouts (cond (eqb message 1) capabilities configurations)
 
--- ---- five numbers: the place of each known technology's block, 0 for none, and the place after the last block
+-- ---- five numbers: the place of each known technology's block, and the place after the last block
+
+-- the place of a block that is absent, past the end of every message
+abbrev pub noPlace : ℕ
+noPlace = 65535
+
+abbrev pub noPlaces : List ℕ
+noPlaces = replicate 5 noPlace
 
 abbrev pub note : ℕ → ℕ → List ℕ → List ℕ
 note id at found = cond (ltb id (length technologies)) (set found id at) found
@@ -85,12 +99,12 @@ pub record Judged (kept : Bool) (c : Checked (List (List ℕ))) (at : ℕ) (foun
 
 -- ---- the record that the places give
 
--- An absent technology's fields are those of a block of zeros; no block needs more than 20 where k and n are zero.
-abbrev pub blockOrZeros : List ℕ → ℕ → List ℕ
-blockOrZeros m at = cond (eqb at 0) (replicate 20 0) (blockAt m at)
+-- the fields of the block that begins at a place, or zero if the message has no room for them there
+abbrev pub fieldsAt : (L : Layout) → List ℕ → ℕ → Values L
+fieldsAt L m at = cond (roomy L 2 (drop at m)) (value L 2 (drop at m)) (zeroes L)
 
 abbrev pub columnAt : (k : Column) → List ℕ → List ℕ → StructOf k
-columnAt k m found = make k (λ t. value (cell k t) 2 (blockOrZeros m (getD found (technologyId t) 0)))
+columnAt k m found = make k (λ t. fieldsAt (cell k t) m (getD found (technologyId t) 0))
 
 -- the column of the message's blocks, or zeros
 abbrev pub columnFound : List ℕ → List ℕ → (k : Column) → StructOf k
@@ -103,12 +117,6 @@ recordAt m found = record {
   capability = columnFound m found capabilities;
   configuration = columnFound m found configurations;
 }
-
--- whole blocks with room for all their fields stand at the places
-pub record Placed (k : Column) (m found : List ℕ) : Type 0 where
-  pub whole : (t : Technology) → let at = getD found (technologyId t) 0 in (at ≡ 0 → ⊥) → (at + 2 ≤ length m) × (at + getD m (at + 1) 0 ≤ length m)
-  pub roomy : (t : Technology) → Roomy (cell k t) 2 (blockOrZeros m (getD found (technologyId t) 0))
-  pub size : length found ≡ 5
 
 -- ---- the listing: the blocks that are left from a place on
 

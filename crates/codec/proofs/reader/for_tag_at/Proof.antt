@@ -1,11 +1,7 @@
 use borrow.Author.Tests.{ne-eqb}
-use Rattle.codec.specs.Blocks.{configurations}
 use borrow.Author.Needs.{needs}
 use Rattle.codec.proofs.reader.for_tag_at.Statement.{statement}
 use Rattle.codec.proofs.reader.for_tag_at.Tie as tie
-
-configuration-at-requires : tie.Need-configuration-at-requires
-configuration-at-requires c κs = c .before .before .before .before .pre .1 configurations (c .if1 .taken)
 
 returns : tie.Need-returns
 returns c = rw (c .configuration-at .ensures, c .before .before .u16-at .ensures, c .before .if1 .taken)
@@ -19,7 +15,7 @@ for-tag-at-spec =
     (tie.spec
     (search needs)
     (search needs)
-    configuration-at-requires
+    (search needs)
     returns
     (search needs)
     returns-2)

@@ -17,7 +17,7 @@ returns : tie.Need-returns
 returns c = record { octets = octets (c .before .before .before .before); answers = c .refused .ensures ∙ reads-refused _ _ (c .before .before .message-fault .ensures .number) (c .before .if1 .taken) }
 
 record-at-requires : tie.Need-record-at-requires
-record-at-requires c κs = (found (c .before) .four, found (c .before) .placed)
+record-at-requires c κs = found (c .before) .four
 
 returns-2 : tie.Need-returns-2
 returns-2 c = record { octets = octets (c .before .before .before .before .before); answers = ap accepted (c .record-at .ensures) ∙ found (c .before .before) .reads }

@@ -12,7 +12,7 @@ returns : tie.Need-returns
 returns c = rw (c .refused-for-tag .ensures) (ap forTag (reads-refused _ _ (c .before .before .message-fault .ensures .number) (c .before .if1 .taken)))
 
 for-tag-at-requires : tie.Need-for-tag-at-requires
-for-tag-at-requires c κs = (found (c .before) .four, found (c .before) .placed)
+for-tag-at-requires c κs = found (c .before) .four
 
 returns-2 : tie.Need-returns-2
 returns-2 c = c .for-tag-at .ensures ∙ ap forTag (found (c .before .before) .reads)

@@ -1,17 +1,10 @@
 use borrow.Author.Tests.{ne-eqb}
-use Rattle.codec.specs.Blocks.{capabilities, configurations}
 use borrow.Author.Needs.{needs}
 use Rattle.codec.proofs.reader.record_at.Statement.{statement}
 use Rattle.codec.proofs.reader.record_at.Tie as tie
 
-capability-at-requires : tie.Need-capability-at-requires
-capability-at-requires c κs = c .before .before .before .before .pre .1 capabilities (c .if1 .taken)
-
 returns : tie.Need-returns
 returns c = rw (c .before .capability-at .ensures, c .zero-configuration .ensures, c .before .before .before .u16-at .ensures, c .before .before .if1 .taken)
-
-configuration-at-requires : tie.Need-configuration-at-requires
-configuration-at-requires c κs = c .before .before .before .before .before .before .pre .1 configurations (c .if2 .taken)
 
 returns-2 : tie.Need-returns-2
 returns-2 c = rw (c .configuration-at .ensures, c .before .before .zero-capability .ensures, c .before .before .before .before .u16-at .ensures, c .before .if2 .taken)
@@ -25,11 +18,11 @@ record-at-spec =
     (tie.spec
     (search needs)
     (search needs)
-    capability-at-requires
+    (search needs)
     (search needs)
     returns
     (search needs)
-    configuration-at-requires
+    (search needs)
     returns-2
     (search needs)
     returns-3)
