@@ -14,10 +14,10 @@ use Rattle.codec.specs.Technology.{Technology, technologyId, bit, known,
 use Rattle.codec.specs.Layout.{Layout, zeroes, value}
 use Rattle.codec.specs.Blocks.{Column, capabilities, configurations, cell, layouts}
 use Rattle.codec.specs.Table.{messageLimit, assigned, readable, messageOf, row, blockCount, layoutsOf, setIn}
-use Rattle.codec.specs.Records.{make, answer, accepted, refused}
+use Rattle.codec.specs.Records.{make, response, settingsRecord, withoutBlocks, answer, accepted, refused}
 use Rattle.codec.specs.Message.{versionOf, idOf, setOf, setsAgree, blocksAt, blockAt, also, noId, blockFault, Walked, prepend, walk, endFault, blocksFrom, afterHead, body, parse, fieldsIn, recordOf, reading}
 use Rattle.codec.specs.WellFormed.{Whole, Each}
-use Rattle.codec.specs.Inner.Places.{numberIn, Roomy, noPlace, noPlaces, note, noted, carriesBlocks, Judged, fieldsAt, columnFound, recordAt}
+use Rattle.codec.specs.Inner.Places.{numberIn, Roomy, noPlace, noPlaces, note, noted, carriesBlocks, Judged, fieldsAt, columnAt, columnFound, recordAt, Located}
 use Rattle.codec.proofs.Outcomes.{by-bool, by-number, and-true, or-false, demanded, chained}
 use Rattle.codec.proofs.Layouts.{sound-roomy, roomy-from, value-before, fields-there, no-fields}
 use Rattle.codec.proofs.Cells.{cell-fits, layout-of, technology-below}
@@ -200,19 +200,12 @@ module _ (m : List ℕ) (blocks : List (List ℕ)) (e : parse m ≡ accept block
     unfolding reading
     reads = rw e (ap accepted record-found)
 
--- what the places of a message say in which the order of checks finds no fault
-pub record Found (m found : List ℕ) : Type 0 where
-  pub four : 4 ≤ length m
-  pub reads : accepted (recordAt m found) ≡ answer (reading m)
-
-pub found-by : (m : List ℕ) → {f : ℕ} {found : List ℕ} → Judged (carriesBlocks (row (idOf m) .column)) (parse m) (blocksAt (row (idOf m) .times)) noPlaces f found → f ≡ 0 → Found m found
-found-by m {f} {found} j z =
-    by-number (parse m) (sym (j .number) ∙ z) λ blocks e.
-    let places : carriesBlocks (row (idOf m) .column) ≡ true → found ≡ noted blocks (blocksAt (row (idOf m) .times)) noPlaces = λ k. j .places k blocks e in
-    record {
-      four = four m blocks e;
-      reads = reads m blocks e found places;
-    }
+pub located : (m : List ℕ) → {f : ℕ} {found : List ℕ} → Judged (carriesBlocks (row (idOf m) .column)) (parse m) (blocksAt (row (idOf m) .times)) noPlaces f found → Located m f found
+located m {f} {found} j = record {
+  number = j .number;
+  four = λ z. by-number (parse m) (sym (j .number) ∙ z) λ blocks e. four m blocks e;
+  reads = λ z. by-number (parse m) (sym (j .number) ∙ z) λ blocks e. reads m blocks e found (λ k. j .places k blocks e);
+}
 
 pub reads-refused : (m : List ℕ) (f : ℕ) → f ≡ numberIn (parse m) → (f ≡ 0 → ⊥) → refused f ≡ answer (reading m)
 unfolding reading
@@ -221,3 +214,14 @@ reads-refused m f e h = go (parse m) e
     go : (c : Checked (List (List ℕ))) → f ≡ numberIn c → refused f ≡ answer (andThen c λ blocks. accept (recordOf (idOf m) (setOf m) blocks))
     go (refuse x) e = ap refused e
     go (accept blocks) e = absurd (h e)
+
+-- the record by the kind of a message without a fault
+module _ {m : List ℕ} {f : ℕ} {places : List ℕ} (l : Located m f places) (z : f ≡ 0) where
+  pub response-found : idOf m ≡ messageOf capabilities → accepted (response (known (setOf m)) (columnAt capabilities m places)) ≡ answer (reading m)
+  response-found h = let e : response (known (setOf m)) (columnAt capabilities m places) ≡ recordAt m places = rw h in ap accepted e ∙ l .reads z
+
+  pub configuration-found : idOf m ≡ messageOf configurations → accepted (settingsRecord (known (setOf m)) (columnAt configurations m places)) ≡ answer (reading m)
+  configuration-found h = let e : settingsRecord (known (setOf m)) (columnAt configurations m places) ≡ recordAt m places = rw h in ap accepted e ∙ l .reads z
+
+  pub set-found : ((k : Column) → idOf m ≡ messageOf k → ⊥) → accepted (withoutBlocks (idOf m) (known (setOf m))) ≡ answer (reading m)
+  set-found n = let e : withoutBlocks (idOf m) (known (setOf m)) ≡ recordAt m places = rw (ne-eqb (idOf m) 1 (n capabilities), ne-eqb (idOf m) 2 (n configurations)) in ap accepted e ∙ l .reads z

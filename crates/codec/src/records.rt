@@ -71,6 +71,12 @@ pub struct TagReading {
     pub configuration: Configuration,
 }
 
+// The number of a message's first fault, or 0 and the places of the known technologies' blocks and of the end.
+pub struct Found {
+    pub fault: u8,
+    pub places: [u16; 5],
+}
+
 // A block of a message: its place, its ID and its size. All zero for none.
 #[repr(C)]
 pub struct Block {
@@ -178,7 +184,7 @@ pub fn zero_configuration() -> Configuration
     }
 }
 
-pub(crate) fn refused(number: u8) -> Reading
+pub fn refused(number: u8) -> Reading
     ensures { λ r. ⌜ r ≡ refused number ⌝ }
 {
     let capability = zero_capability();

@@ -11,8 +11,8 @@ use Rattle.codec.specs.Technology.{Technology, technologyId, technologie
 use Rattle.codec.specs.Layout.{Layout, number, octets, counted, Values, zeroes, value, least, fault}
 use Rattle.codec.specs.Blocks.{Column, capabilities, configurations, cell, layouts}
 use Rattle.codec.specs.Table.{messageOf, Row}
-use Rattle.codec.specs.Records.{StructOf, make, blank}
-use Rattle.codec.specs.Message.{Walked, walk, idOf, setOf, blockAt}
+use Rattle.codec.specs.Records.{StructOf, make, blank, accepted, answer}
+use Rattle.codec.specs.Message.{Walked, walk, idOf, setOf, blockAt, parse, reading}
 use Rattle.codec.specs.Listing.{nthFrom}
 use Rattle.codec.specs.declared.records.Record.{Record}
 use Rattle.codec.specs.declared.records.Block.{Block}
@@ -117,6 +117,12 @@ recordAt m found = record {
   capability = columnFound m found capabilities;
   configuration = columnFound m found configurations;
 }
+
+-- what is found in a message: the number of its first fault, or 0 and places that give its record
+pub record Located (m : List ℕ) (f : ℕ) (places : List ℕ) : Type 0 where
+  pub number : f ≡ numberIn (parse m)
+  pub four : f ≡ 0 → 4 ≤ length m
+  pub reads : f ≡ 0 → accepted (recordAt m places) ≡ answer (reading m)
 
 -- ---- the listing: the blocks that are left from a place on
 

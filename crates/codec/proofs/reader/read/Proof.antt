@@ -1,7 +1,9 @@
-use Rattle.codec.proofs.Found.{Found, found-by, reads-refused}
 use Rattle.codec.specs.Octets.{Octets}
-use Rattle.codec.specs.Records.{accepted}
-use mathlib.Core.Path.{ap, _∙_}
+use Rattle.codec.specs.Blocks.{Column, capabilities, configurations}
+use Rattle.codec.specs.Table.{messageOf}
+use Rattle.codec.specs.Message.{idOf}
+use Rattle.codec.proofs.Found.{reads-refused, response-found, configuration-found, set-found}
+use mathlib.Core.Path.{_≡_, _∙_}
 use native.Mathlib.Omega.{arith}
 use borrow.Author.Needs.{needs}
 use Rattle.codec.proofs.reader.read.Statement.{statement}
@@ -10,19 +12,40 @@ use Rattle.codec.proofs.reader.read.Tie as tie
 octets : (c : tie.After-shared-slice-known) → Octets (c .before .args .message .now)
 octets c i = omega (arith, c .shared-slice-known .given i)
 
-found : (c : tie.Else1) → Found (c .before .before .before .before .args .message .now) (c .before .message-fault .last .1 .0)
-found c = found-by (c .before .before .before .before .args .message .now) (c .before .message-fault .ensures) (c .if1 .left)
-
 returns : tie.Need-returns
-returns c = record { octets = octets (c .before .before .before .before); answers = c .refused .ensures ∙ reads-refused _ _ (c .before .before .message-fault .ensures .number) (c .before .if1 .taken) }
+returns c = record { octets = octets (c .before .before .before); answers = c .refused .ensures ∙ reads-refused _ _ (c .before .before .find .ensures .number) (c .before .if1 .taken) }
 
-record-at-requires : tie.Need-record-at-requires
-record-at-requires c κs = found (c .before) .four
+shared-slice-read-id : tie.Need-shared-slice-read-id
+shared-slice-read-id c = omega (arith, c .before .before .find .ensures .four (c .before .if1 .left))
+
+u16-at-requires : tie.Need-u16-at-requires
+u16-at-requires c κs = c .before .before .find .ensures .four (c .before .if1 .left)
+
+alone : (c : tie.After-set-read) (k : Column) → idOf (c .before .before .before .before .before .before .before .before .args .message .now) ≡ messageOf k → ⊥
+alone c capabilities = c .before .before .if2 .left
+alone c configurations = c .before .if3 .left
 
 returns-2 : tie.Need-returns-2
-returns-2 c = record { octets = octets (c .before .before .before .before .before); answers = ap accepted (c .record-at .ensures) ∙ found (c .before .before) .reads }
+returns-2 c = record { octets = octets (c .before .before .before .before .before .before .before .before); answers = c .response-read .ensures ∙ rw (c .before .before .before .before .u16-at .ensures) (response-found (c .before .before .before .before .before .before .before .find .ensures) (c .before .before .before .before .before .before .if1 .left) (c .before .before .before .if2 .taken)) }
+
+returns-3 : tie.Need-returns-3
+returns-3 c = record { octets = octets (c .before .before .before .before .before .before .before .before .before); answers = c .configuration-read .ensures ∙ rw (c .before .before .before .before .before .u16-at .ensures) (configuration-found (c .before .before .before .before .before .before .before .before .find .ensures) (c .before .before .before .before .before .before .before .if1 .left) (c .before .before .before .if3 .taken)) }
+
+returns-4 : tie.Need-returns-4
+returns-4 c = record { octets = octets (c .before .before .before .before .before .before .before); answers = c .set-read .ensures ∙ rw (c .before .before .before .u16-at .ensures) (set-found (c .before .before .before .before .before .before .find .ensures) (c .before .before .before .before .before .if1 .left) (alone c)) }
 
 pub read-spec : {M : Type 1} → statement M
 read-spec =
     tie.close
-    (tie.spec (search needs) (search needs) returns record-at-requires returns-2)
+    (tie.spec
+    (search needs)
+    (search needs)
+    returns
+    shared-slice-read-id
+    u16-at-requires
+    (search needs)
+    returns-2
+    (search needs)
+    returns-3
+    (search needs)
+    returns-4)
