@@ -3,6 +3,9 @@ use codec::Block;
 use codec::Reading;
 use codec::Record;
 use codec::Written;
+use codec::message::CAPABILITY_RESPONSE;
+use codec::message::CONFIGURATION;
+use codec::technology::SET_LIMIT;
 use session::Answer;
 use session::Session;
 use session::Started;
@@ -13,12 +16,25 @@ ghost use Rattle.codec.specs.Writing.{WritesTyped};
 ghost use Rattle.session.specs.Rules.{message, advertisement};
 ghost use Rattle.session.specs.Session.{Does, profileOf, started};
 
-// Reads a message: its record, or the number of the refusal that the order of checks names.
+// Reads a message as `codec::read` does. It returns by the kind of message here too, so that the compiler puts each record straight
+// into what is returned.
 #[no_mangle]
 pub extern "C" fn raydulcimer_read(message: &[u8]) -> Reading
     ensures { λ r. ⌜ Reads (now (message .entry)) r ⌝ }
 {
-    codec::read(message)
+    let found = codec::find(message);
+    if found.fault != 0 {
+        return codec::refused(found.fault);
+    }
+    let id = message[1];
+    let set = message[2] as u16 % SET_LIMIT;
+    if id == CAPABILITY_RESPONSE {
+        return codec::response_read(set, message, &found.places);
+    }
+    if id == CONFIGURATION {
+        return codec::configuration_read(set, message, &found.places);
+    }
+    codec::set_read(id, set)
 }
 
 // Writes a record's normal form into the first octets of a buffer. A record that is not valid and then a buffer that is
