@@ -18,7 +18,6 @@ use Rattle.codec.specs.declared.records.Configuration.{Configuration}
 use Rattle.codec.specs.declared.records.Record.{Record}
 use Rattle.codec.specs.declared.records.SetMessage.{SetMessage}
 use Rattle.codec.specs.declared.records.Reading.{Reading}
-use Rattle.codec.specs.declared.records.TagReading.{TagReading}
 
 -- ---- a block's fields as the struct of the code that holds them
 
@@ -192,7 +191,3 @@ refused n = record { refusal = n; value = zeroRecord }
 abbrev pub answer : Checked Record → Reading
 answer (refuse x) = refused (numberOf x)
 answer (accept r) = accepted r
-
--- what a tag reads: the answer without the capability
-abbrev pub forTag : Reading → TagReading
-forTag a = record { refusal = a .refusal; id = a .value .id; set = a .value .set; configuration = a .value .configuration }

@@ -69,7 +69,7 @@ pub fn uwb_settings(m: &[u8], at: u32) -> UwbConfiguration
     uwb::configuration(&m[i..])
 }
 
-fn cs_settings(m: &[u8], at: u32) -> CsConfiguration
+pub fn cs_settings(m: &[u8], at: u32) -> CsConfiguration
     ensures { λ r. ⌜ r ≡ toCsConfiguration (fieldsAt csConfiguration (now (m .entry)) at) ⌝ }
 {
     let i = at as usize;
@@ -107,7 +107,7 @@ pub fn rssi_block(m: &[u8], at: u32) -> Rssi
 }
 
 // A place that is kept in 16 bits.
-fn wide(place: u16) -> u32
+pub(crate) fn wide(place: u16) -> u32
     ensures { λ r. ⌜ r ≡ place ⌝ }
 {
     place as u32

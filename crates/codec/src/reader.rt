@@ -9,19 +9,15 @@ use crate::places::configuration_at;
 use crate::records::Found;
 use crate::records::Reading;
 use crate::records::Record;
-use crate::records::TagReading;
 use crate::records::refused;
-use crate::records::refused_for_tag;
 use crate::records::zero_capability;
 use crate::records::zero_configuration;
 use crate::technology::SET_LIMIT;
 ghost use mathlib.Core.Path.{_≡_};
-ghost use Prim.Native.Nat.{_≤_};
-ghost use lib.ListN.{length};
 ghost use Rattle.codec.specs.Blocks.{capabilities, configurations};
-ghost use Rattle.codec.specs.Message.{reading, Reads};
-ghost use Rattle.codec.specs.Records.{accepted, answer, forTag, response, settingsRecord, withoutBlocks};
-ghost use Rattle.codec.specs.Inner.Places.{columnAt, recordAt, Located};
+ghost use Rattle.codec.specs.Message.{Reads};
+ghost use Rattle.codec.specs.Records.{accepted, response, settingsRecord, withoutBlocks};
+ghost use Rattle.codec.specs.Inner.Places.{columnAt, Located};
 
 // Finds the blocks of a message.
 pub fn find(message: &[u8]) -> Found
@@ -100,41 +96,4 @@ pub fn read(message: &[u8]) -> Reading
         return configuration_read(set, message, &found.places);
     }
     set_read(id, set)
-}
-
-// What a tag reads of a message that is not refused.
-fn for_tag_at(m: &[u8], places: &[u16; 5]) -> TagReading
-    requires { ⌜ 4 ≤ length (now m) ⌝ }
-    ensures { λ r. ⌜ r ≡ forTag (accepted (recordAt (now (m .entry)) (now (places .entry)))) ⌝ }
-{
-    let id = m[1];
-    let named = u16_at(m, 2) % SET_LIMIT;
-    if id == CONFIGURATION {
-        let settings = configuration_at(m, places);
-        return TagReading {
-            refusal: 0,
-            id,
-            set: named,
-            configuration: settings,
-        };
-    }
-    let none = zero_configuration();
-    TagReading {
-        refusal: 0,
-        id,
-        set: named,
-        configuration: none,
-    }
-}
-
-// Reads a message as `read` does, without the capability.
-pub fn read_for_tag(message: &[u8]) -> TagReading
-    ensures { λ r. ⌜ r ≡ forTag (answer (reading (now (message .entry)))) ⌝ }
-{
-    let mut places = [NO_PLACE; 5];
-    let fault = message_fault(message, &mut places);
-    if fault != 0 {
-        return refused_for_tag(fault);
-    }
-    for_tag_at(message, &places)
 }

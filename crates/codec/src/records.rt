@@ -18,7 +18,7 @@ use crate::uwb::UwbCapability;
 use crate::uwb::UwbConfiguration;
 ghost use mathlib.Core.Path.{_≡_};
 ghost use Rattle.codec.specs.Blocks.{capabilities, configurations};
-ghost use Rattle.codec.specs.Records.{blank, messageId, refused, forTag};
+ghost use Rattle.codec.specs.Records.{blank, messageId, refused};
 
 // What the blocks of message 1 say. An absent technology's fields are zero.
 #[repr(C)]
@@ -62,13 +62,16 @@ pub struct Reading {
     pub value: Record,
 }
 
-// What a tag reads: the reader's answer without the capability, which no message to a tag has.
+// What a tag hears: the reader's refusal, ID and set, and where the settings of a Configuration stand in the message.
 #[repr(C)]
-pub struct TagReading {
+pub struct Heard {
     pub refusal: u8,
     pub id: u8,
     pub set: u16,
-    pub configuration: Configuration,
+    pub uwb: u32,
+    pub cs: u32,
+    pub nan: u32,
+    pub rssi: u32,
 }
 
 // The number of a message's first fault, or 0 and the places of the known technologies' blocks and of the end.
@@ -200,15 +203,17 @@ pub fn refused(number: u8) -> Reading
     }
 }
 
-// A refusal, as `read_for_tag` gives it.
-pub fn refused_for_tag(fault: u8) -> TagReading
-    ensures { λ r. ⌜ r ≡ forTag (refused fault) ⌝ }
+// A refusal, as `hear` gives it.
+pub fn unheard(refusal: u8) -> Heard
+    ensures { λ r. ⌜ r ≡ record { refusal = refusal; id = 0; set = 0; uwb = 0; cs = 0; nan = 0; rssi = 0 } ⌝ }
 {
-    let configuration = zero_configuration();
-    TagReading {
-        refusal: fault,
+    Heard {
+        refusal,
         id: 0,
         set: 0,
-        configuration,
+        uwb: 0,
+        cs: 0,
+        nan: 0,
+        rssi: 0,
     }
 }

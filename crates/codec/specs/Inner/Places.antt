@@ -7,14 +7,16 @@ use mathlib.Core.Bool.{Bool, true, false, _&&_, not, cond}
 use lib.Dec.{leb, ltb, eqb}
 use lib.ListN.{length, getD, set, drop, replicate}
 use Rattle.codec.specs.Refusal.{Checked, refuse, accept, demand, andThen, numberOf, endsEarly, wrongBlock, blockTooSmall}
-use Rattle.codec.specs.Technology.{Technology, technologyId, technologies, bit, known}
+use Rattle.codec.specs.Technology.{Technology, uwb, cs, nan, rssi, technologyId, technologies, bit, known}
 use Rattle.codec.specs.Layout.{Layout, number, octets, counted, Values, zeroes, value, least, fault}
 use Rattle.codec.specs.Blocks.{Column, capabilities, configurations, cell, layouts}
 use Rattle.codec.specs.Table.{messageOf, Row}
 use Rattle.codec.specs.Records.{StructOf, make, blank, accepted, answer}
 use Rattle.codec.specs.Message.{Walked, walk, idOf, setOf, blockAt, parse, reading}
 use Rattle.codec.specs.Listing.{nthFrom}
+use Rattle.codec.specs.declared.records.Configuration.{Configuration}
 use Rattle.codec.specs.declared.records.Record.{Record}
+use Rattle.codec.specs.declared.records.Heard.{Heard}
 use Rattle.codec.specs.declared.records.Block.{Block}
 
 -- the number that the code gives: 0 for no refusal
@@ -123,6 +125,25 @@ pub record Located (m : List ℕ) (f : ℕ) (places : List ℕ) : Type 0 where
   pub number : f ≡ numberIn (parse m)
   pub four : f ≡ 0 → 4 ≤ length m
   pub reads : f ≡ 0 → accepted (recordAt m places) ≡ answer (reading m)
+
+-- ---- what a tag hears of a message: refusal, ID and set, and the places of a Configuration's blocks
+
+abbrev pub placeIn : Heard → Technology → ℕ
+placeIn h uwb = h .uwb
+placeIn h cs = h .cs
+placeIn h nan = h .nan
+placeIn h rssi = h .rssi
+
+-- the settings at those places
+abbrev pub settingsAt : Heard → List ℕ → Configuration
+settingsAt h m = make configurations (λ t. fieldsAt (cell configurations t) m (placeIn h t))
+
+-- of a message that is read so, or refused
+pub record Hears (o : Checked Record) (m : List ℕ) (h : Heard) : Type 0 where
+  pub refusal : h .refusal ≡ answer o .refusal
+  pub id : h .id ≡ answer o .value .id
+  pub set : h .set ≡ answer o .value .set
+  pub settings : h .refusal ≡ 0 → h .id ≡ messageOf configurations → settingsAt h m ≡ answer o .value .configuration
 
 -- ---- the listing: the blocks that are left from a place on
 
