@@ -1,5 +1,6 @@
 -- From what the codec's writers promise to what a call gives.
 use Prim.Native.Nat.{ℕ, zero-le, _<_}
+use native.Mathlib.Omega.{arith}
 use mathlib.Core.Path.{_≡_, refl, sym, ap, subst, fun-ext, _∙_}
 use mathlib.Core.List.{List, [], _∷_}
 use mathlib.Core.Option.{none, some}
@@ -10,14 +11,15 @@ use borrow.Author.Tests.{lt-ltb, le-leb, ne-eqb, eqb-true}
 use Rattle.codec.specs.Layout.{Layout, Values}
 use Rattle.codec.specs.Refusal.{Refusal, Checked, refuse, accept, demand, andThen, numberOf, notForTag, notValid}
 use Rattle.codec.specs.Blocks.{capabilities, configurations, cell}
-use Rattle.codec.specs.Records.{settingsIn, blank, response, only, setRecord, accepted, answer, forTag, fields}
-use Rattle.codec.specs.Message.{idOf, setOf, parse, recordOf, reading}
+use Rattle.codec.specs.Records.{blank, capabilityIn, settingsIn, response, only, setRecord, answer, fields}
+use Rattle.codec.specs.Message.{reading}
+use Rattle.codec.specs.Inner.Places.{settingsAt, Hears}
 use Rattle.codec.specs.NormalForm.{normal}
 use Rattle.codec.specs.Valid.{validFields, validColumn, valid}
 use Rattle.codec.specs.Writing.{writing, Writes}
 use Rattle.codec.specs.declared.records.Configuration.{Configuration}
 use Rattle.codec.specs.declared.records.Record.{Record}
-use Rattle.codec.specs.declared.records.TagReading.{TagReading}
+use Rattle.codec.specs.declared.records.Heard.{Heard}
 use Rattle.codec.specs.declared.records.SetMessage.{SetMessage}
 use Rattle.codec.specs.declared.records.Written.{Written}
 use Rattle.codec.proofs.Outcomes.{by-bool, and-true, no-zero}
@@ -27,8 +29,8 @@ use Rattle.session.specs.declared.state.Profile.{Profile}
 use Rattle.session.specs.declared.state.Session.{Session}
 use Rattle.session.specs.declared.state.Answer.{Answer}
 use Rattle.codec.specs.Technology.{technologies, setLimit, Technology, technologyId, uwb, nan, rssi, names, naming, bit, ofBits, inBoth}
-use Rattle.session.specs.Within.{bars}
-use Rattle.session.specs.Rules.{validProfile, message, advertisement, Call, Kind, request, configuration, stop, kindOf, octetsOf, replied, shows, capabilityReply, Served, conclude, giveOut, configure, setBy, endedBy, halt, serve, respond, call, after, answerTo}
+use Rattle.session.specs.Within.{withinProfile}
+use Rattle.session.specs.Rules.{validProfile, eligible, message, advertisement, Call, Kind, request, configuration, stop, kindOf, octetsOf, replied, shows, capabilityReply, Served, conclude, giveOut, configure, setBy, endedBy, halt, serve, respond, call, after, answerTo}
 use Rattle.session.specs.Session.{yes, stateIn, markIn, withStates, withMarks, onSession, sessionCall, Gives, asProfile, profileOf}
 use Rattle.session.specs.Inner.Replies.{Delivers, settle, Answers}
 use Rattle.codec.proofs.SetLaws.{naming-below, names-naming}
@@ -117,17 +119,13 @@ module _ (s : Session) (wanted : ℕ) {blocks m : ℕ} {b e : List ℕ} {w : Wri
         buffer = a .buffer;
       }
 
--- what stops, with a message's settings
-abbrev pub ends : (Technology → Bool) → Configuration → Session → Session
-ends ended c s = withMarks (withStates s (λ t. cond (ended t) (record { ranging = 0; settings = settingsIn c t }) (stateIn s t))) (λ t. cond (bars t && ended t) 1 (markIn s t))
-
 -- one technology, or none
 abbrev pub alone : Technology → Bool → Technology → Bool
 alone t on u = cond (eqb (technologyId t) (technologyId u)) on false
 
 -- what the answer names is set and stopped
 abbrev pub follow : Configuration → Answer → Session → Session
-follow c a s = ends (names (a .stopped)) c (onSession .put (names (a .set)) c s)
+follow c a s = onSession .stop (names (a .stopped)) (onSession .put (names (a .set)) c s)
 
 pub follow-none : (c : Configuration) (w : Written) (s : Session) → follow c (settle w 0 0) s ≡ s
 follow-none c w s = by-bool (eqb (w .refusal) 0) (λ t. rw t) (λ t. rw t)
@@ -140,12 +138,34 @@ module _ (s : Session) (set : ℕ) (b : List ℕ) where
       (λ t. rw t (ap (λ (g : Technology → Bool). onSession .put g c s) (fun-ext (names-naming f))))
       (λ t. rw t)
 
-  pub follow-halt : {c : Configuration} → c ≡ blank configurations → let o = conclude b (halt onSession (s .profile) set s) in follow c (answerTo o) s ≡ after s o
+  pub follow-halt : (c : Configuration) → let o = conclude b (halt onSession (s .profile) set s) in follow c (answerTo o) s ≡ after s o
   unfolding conclude
-  follow-halt {c} z = let f = endedBy onSession (s .profile) set s in
+  follow-halt c = let f = endedBy onSession (s .profile) set s in
       by-bool (leb (length (octetsOf (halt onSession (s .profile) set s .reply))) (length b))
-      (λ t. rw (t, z) (ap (λ (g : Technology → Bool). onSession .stop g s) (fun-ext (names-naming f))))
+      (λ t. rw t (ap (λ (g : Technology → Bool). onSession .stop g s) (fun-ext (names-naming f))))
       (λ t. rw t)
+
+-- ---- eligible, by what is tested first: named, in the profile, not barred
+
+module _ (p : Profile) (set : ℕ) (c : Configuration) (barred : Technology → Bool) (t : Technology) where
+  pub ineligible : ((names set t && names (p .set) t) && not (barred t)) ≡ false → false ≡ eligible p set c barred t
+  unfolding eligible
+  ineligible = go (names set t) (names (p .set) t) (withinProfile t (capabilityIn (p .capability) t) (settingsIn c t)) (not (barred t))
+    where
+      go : (named has within free : Bool) → ((named && has) && free) ≡ false → false ≡ (named && (has && (within && free)))
+      go false has within free e = refl
+      go true false within free e = refl
+      go true true within free e = rw e (sym (and-false within))
+
+  pub by-settings : ((names set t && names (p .set) t) && not (barred t)) ≡ true → withinProfile t (capabilityIn (p .capability) t) (settingsIn c t) ≡ eligible p set c barred t
+  unfolding eligible
+  by-settings = go (names set t) (names (p .set) t) (withinProfile t (capabilityIn (p .capability) t) (settingsIn c t)) (not (barred t))
+    where
+      go : (named has within free : Bool) → ((named && has) && free) ≡ true → within ≡ (named && (has && (within && free)))
+      go true true within true e = sym (with-true within)
+      go true true within false e = absurd (true≢false (sym e))
+      go true false within free e = absurd (true≢false (sym e))
+      go false has within free e = absurd (true≢false (sym e))
 
 -- ---- what a Stop ends, where CS is never ranging
 
@@ -159,38 +179,37 @@ pub invalid : (s : Session) (c : Call) → validProfile (s .profile) ≡ false �
 unfolding sessionCall
 invalid s c h = rw h (refuses notValid)
 
--- no settings but in a Configuration
-unset : (m : List ℕ) (v : Bool) → let a = forTag (answer (demand v notValid (reading m))) in (a .id ≡ 2 → ⊥) → a .configuration ≡ blank configurations
-unfolding reading
-unset m false k = refl
-unset m true k = go (parse m) k
+-- the kind of message 2
+configured : (id : ℕ) → kindOf id ≡ accept configuration → id ≡ 2
+configured id e = by-bool (eqb id 2) (λ y. eqb-true id 2 y) (λ n. absurd (go (eqb id 0) (eqb id 6) (rw n at e)))
   where
-    go : (o : Checked (List (List ℕ))) → let a = forTag (answer (andThen o λ blocks. accept (recordOf (idOf m) (setOf m) blocks))) in (a .id ≡ 2 → ⊥) → a .configuration ≡ blank configurations
-    go (refuse x) k = refl
-    go (accept blocks) k = rw (ne-eqb (idOf m) 2 k)
+    go : (a c : Bool) → _≡_ {A = Checked Kind} (cond a (accept request) (cond c (accept stop) (refuse notForTag))) (accept configuration) → ⊥
+    go true c e = let z : _≡_ {A = ℕ} 0 1 = cc in omega arith
+    go false true e = let z : _≡_ {A = ℕ} 0 1 = cc in omega arith
+    go false false e = let z : _≡_ {A = ℕ} 0 1 = cc in omega arith
 
 -- all that the kinds look at
-abbrev tagged : TagReading → Record
-tagged a = record { id = a .id; set = a .set; capability = blank capabilities; configuration = a .configuration }
+abbrev tagged : Heard → List ℕ → Record
+tagged h m = record { id = h .id; set = h .set; capability = blank capabilities; configuration = settingsAt h m }
 
-module _ (s : Session) (m b : List ℕ) {a : TagReading} (h : a ≡ forTag (answer (demand (validProfile (s .profile)) notValid (reading m)))) where
+module _ (s : Session) (m b : List ℕ) {a : Heard} (h : Hears (demand (validProfile (s .profile)) notValid (reading m)) m a) where
   abbrev given-message : Checked (Served Session)
   given-message = sessionCall s (record { said = message m; lent = b })
 
   abbrev by-kind : Checked (Served Session)
-  by-kind = andThen (kindOf (a .id)) λ k. conclude b (serve onSession (s .profile) k (tagged a) s)
+  by-kind = andThen (kindOf (a .id)) λ k. conclude b (serve onSession (s .profile) k (tagged a m) s)
 
   abbrev by-reading : Bool → Checked Record → Checked (Served Session)
   by-reading v o = demand v notValid (andThen (andThen o λ r. andThen (kindOf (r .id)) λ k. accept (serve onSession (s .profile) k r s)) (conclude b))
 
   pub not-heard : (a .refusal ≡ 0 → ⊥) → Refuses s given-message b (a .refusal)
   unfolding sessionCall call respond
-  not-heard z = go (validProfile (s .profile)) (reading m) h
+  not-heard z = go (validProfile (s .profile)) (reading m) (h .refusal)
     where
-      go : (v : Bool) (o : Checked Record) → a ≡ forTag (answer (demand v notValid o)) → Refuses s (by-reading v o) b (a .refusal)
+      go : (v : Bool) (o : Checked Record) → a .refusal ≡ answer (demand v notValid o) .refusal → Refuses s (by-reading v o) b (a .refusal)
       go false o q = rw q (refuses notValid)
       go true (refuse x) q = rw q (refuses x)
-      go true (accept r) q = absurd (z (ap (λ (y : TagReading). y .refusal) q))
+      go true (accept r) q = absurd (z q)
 
   pub was-heard : a .refusal ≡ 0 → (validProfile (s .profile) ≡ true) × (given-message ≡ by-kind)
   unfolding sessionCall call respond
@@ -199,25 +218,24 @@ module _ (s : Session) (m b : List ℕ) {a : TagReading} (h : a ≡ forTag (answ
       refused : (x : Refusal) → a .refusal ≡ numberOf x → ⊥
       refused x q = no-zero x (sym q ∙ z)
 
-      same : (r : Record) (k : Kind) → serve onSession (s .profile) k r s ≡ serve onSession (s .profile) k (tagged (forTag (accepted r))) s
-      same r request = refl
-      same r configuration = refl
-      same r stop = refl
+      -- only a Configuration's settings are looked at
+      same : (r : Record) → Hears (accept r) m a → (k : Kind) → kindOf (a .id) ≡ accept k → serve onSession (s .profile) k r s ≡ serve onSession (s .profile) k (tagged a m) s
+      same r q request e = ap (λ (n : ℕ). serve onSession (s .profile) request (record { id = 0; set = n; capability = blank capabilities; configuration = blank configurations }) s) (sym (q .set))
+      same r q configuration e = λ i. configure onSession (s .profile) (sym (q .set) i) (sym (q .settings z (configured (a .id) e)) i) s
+      same r q stop e = ap (λ (n : ℕ). halt onSession (s .profile) n s) (sym (q .set))
 
-      of : (r : Record) (o : Checked Kind) → andThen (andThen o λ k. accept (serve onSession (s .profile) k r s)) (conclude b) ≡ (andThen o λ k. conclude b (serve onSession (s .profile) k (tagged (forTag (accepted r))) s))
-      of r (refuse x) = refl
-      of r (accept k) = ap (conclude b) (same r k)
+      of : (r : Record) → Hears (accept r) m a → (o : Checked Kind) → kindOf (a .id) ≡ o
+          → andThen (andThen o λ k. accept (serve onSession (s .profile) k r s)) (conclude b) ≡ (andThen o λ k. conclude b (serve onSession (s .profile) k (tagged a m) s))
+      of r q (refuse x) e = refl
+      of r q (accept k) e = ap (conclude b) (same r q k e)
 
-      go : (v : Bool) (o : Checked Record) → a ≡ forTag (answer (demand v notValid o)) → (v ≡ true) × (by-reading v o ≡ by-kind)
-      go false o q = absurd (refused notValid (ap (λ (y : TagReading). y .refusal) q))
-      go true (refuse x) q = absurd (refused x (ap (λ (y : TagReading). y .refusal) q))
-      go true (accept r) q = (refl, rw q (of r (kindOf (r .id))))
-
-  pub heard-unset : (a .id ≡ 2 → ⊥) → a .configuration ≡ blank configurations
-  heard-unset = subst (λ (y : TagReading). (y .id ≡ 2 → ⊥) → y .configuration ≡ blank configurations) (sym h) (unset m (validProfile (s .profile)))
+      go : (v : Bool) (o : Checked Record) → Hears (demand v notValid o) m a → (v ≡ true) × (by-reading v o ≡ by-kind)
+      go false o q = absurd (refused notValid (q .refusal))
+      go true (refuse x) q = absurd (refused x (q .refusal))
+      go true (accept r) q = (refl, ap (λ (i : ℕ). andThen (andThen (kindOf i) λ k. accept (serve onSession (s .profile) k r s)) (conclude b)) (sym (q .id)) ∙ of r q (kindOf (a .id)) refl)
 
   module _ (z : a .refusal ≡ 0) where
-    pub a-message : {k : Kind} {x : Answer} {n : Session} {e : List ℕ} → kindOf (a .id) ≡ accept k → Gives s (conclude b (serve onSession (s .profile) k (tagged a) s)) b x n e → Gives s given-message b x n e
+    pub a-message : {k : Kind} {x : Answer} {n : Session} {e : List ℕ} → kindOf (a .id) ≡ accept k → Gives s (conclude b (serve onSession (s .profile) k (tagged a m) s)) b x n e → Gives s given-message b x n e
     a-message i g = rw (was-heard z .1, i) g
 
     pub another : (a .id ≡ 0 → ⊥) → (a .id ≡ 2 → ⊥) → (a .id ≡ 6 → ⊥) → Refuses s given-message b 10

@@ -8,12 +8,15 @@ use crate::state::Session;
 use crate::state::Started;
 use crate::state::Step;
 use crate::state::fresh;
-use crate::state::nan_state;
-use crate::state::rssi_state;
-use crate::state::uwb_state;
+use crate::state::idle_nan;
+use crate::state::idle_rssi;
+use crate::state::idle_uwb;
+use crate::state::ranging_nan;
+use crate::state::ranging_rssi;
+use crate::state::ranging_uwb;
 use crate::stop::halt;
+use codec::Heard;
 use codec::Record;
-use codec::TagReading;
 use codec::Written;
 use codec::common;
 use codec::has;
@@ -32,7 +35,7 @@ ghost use mathlib.Core.Bool.{cond, _&&_};
 ghost use lib.Dec.{eqb};
 ghost use Rattle.codec.specs.Refusal.{demand, notValid};
 ghost use Rattle.codec.specs.Technology.{bit};
-ghost use Rattle.codec.specs.Records.{answer, forTag};
+ghost use Rattle.codec.specs.Inner.Places.{Hears};
 ghost use Rattle.codec.specs.Message.{reading};
 ghost use Rattle.session.specs.Rules.{Said, validProfile};
 ghost use Rattle.session.specs.Session.{Does, profileOf, started};
@@ -76,57 +79,57 @@ fn mark_given(blocks: u16, w: Written, mark: u8) -> u8
 }
 
 // What a tag with this profile hears: 12 if the profile is not valid, else what the reader says.
-fn hear(profile: Profile, octets: &[u8]) -> TagReading
-    ensures { λ r. ⌜ r ≡ forTag (answer (demand (validProfile profile) notValid (reading (now (octets .entry))))) ⌝ }
+fn hear(profile: Profile, octets: &[u8]) -> Heard
+    ensures { λ r. ⌜ Hears (demand (validProfile profile) notValid (reading (now (octets .entry)))) (now (octets .entry)) r ⌝ }
 {
     if !valid_profile(profile) {
-        return codec::refused_for_tag(NOT_VALID);
+        return codec::unheard(NOT_VALID);
     }
-    codec::read_for_tag(octets)
+    codec::hear(octets)
 }
 
-// A message to the tag. What the answer names is set or stopped where it lies; the settings of a Stop are zero. One return, and a
-// copy of the profile for its test, let the compiler copy the session only in and out.
+// A message to the tag. What the answer names is set or stopped where it lies, with settings straight from the message. One return,
+// and a copy of the profile for its test, let the compiler copy the session only in and out.
 pub fn message(s: Session, octets: &[u8], out: &mut [u8]) -> Step
     ensures { λ r. ⌜ Does s (record { said = Said.message (now (octets .entry)); lent = now (out .entry) }) (r .answer) (r .session) (now (out .exit)) ⌝ }
 {
     let mut session = s;
     let profile = session.profile;
     let heard = hear(profile, octets);
-    let settings = heard.configuration;
+    let set = heard.set;
     let id = heard.id;
     let mut answer = refusal(heard.refusal);
     if heard.refusal == 0 {
         answer = match id {
             CAPABILITY_REQUEST => {
-                let blocks = common(heard.set, session.profile.set);
+                let blocks = common(set, session.profile.set);
                 let w = codec::write_capability_response(blocks, session.profile.capability, out);
                 session.mark = mark_given(blocks, w, session.mark);
                 answered(w, 0, 0)
             }
-            CONFIGURATION => configure(session, heard.set, settings, out),
-            STOP => halt(session, heard.set, out),
+            CONFIGURATION => configure(session, heard, octets, out),
+            STOP => halt(session, set, out),
             _ => refusal(NOT_FOR_TAG),
         };
     }
     if has(answer.set, UWB) {
-        session.uwb = uwb_state(1, settings.uwb);
+        session.uwb = ranging_uwb(codec::uwb_settings(octets, heard.uwb));
     }
     if has(answer.set, NAN) {
-        session.nan = nan_state(1, settings.nan);
+        session.nan = ranging_nan(codec::nan_settings(octets, heard.nan));
     }
     if has(answer.set, RSSI) {
-        session.rssi = rssi_state(1, settings.rssi);
+        session.rssi = ranging_rssi(codec::rssi_block(octets, heard.rssi));
     }
     if has(answer.stopped, UWB) {
-        session.uwb = uwb_state(0, settings.uwb);
+        session.uwb = idle_uwb();
         session.mark = 1;
     }
     if has(answer.stopped, NAN) {
-        session.nan = nan_state(0, settings.nan);
+        session.nan = idle_nan();
     }
     if has(answer.stopped, RSSI) {
-        session.rssi = rssi_state(0, settings.rssi);
+        session.rssi = idle_rssi();
     }
     Step { session, answer }
 }

@@ -6,7 +6,7 @@ use crate::state::Session;
 use crate::within::within_cs;
 use crate::within::within_nan;
 use crate::within::within_uwb;
-use codec::Configuration;
+use codec::Heard;
 use codec::SetMessage;
 use codec::both_have;
 use codec::set_naming;
@@ -16,45 +16,55 @@ use codec::technology::RSSI;
 use codec::technology::UWB;
 ghost use mathlib.Core.Path.{_≡_};
 ghost use Rattle.codec.specs.Technology.{uwb, cs, nan, rssi};
+ghost use Rattle.codec.specs.Inner.Places.{settingsAt};
 ghost use Rattle.session.specs.Rules.{conclude, eligible, configure};
 ghost use Rattle.session.specs.Session.{onSession};
 ghost use Rattle.session.specs.Inner.Replies.{Answers};
 
-fn eligible_uwb(s: Session, set: u16, c: Configuration) -> bool
-    ensures { λ r. ⌜ r ≡ eligible (s .profile) set c (onSession .barred s) uwb ⌝ }
+fn eligible_uwb(s: Session, h: Heard, m: &[u8]) -> bool
+    ensures { λ r. ⌜ r ≡ eligible (s .profile) (h .set) (settingsAt h (now (m .entry))) (onSession .barred s) uwb ⌝ }
 {
-    let named = both_have(set, s.profile.set, UWB);
-    named & (within_uwb(s.profile.capability.uwb, c.uwb) & (s.mark == 0))
+    let named = both_have(h.set, s.profile.set, UWB);
+    if !(named & (s.mark == 0)) {
+        return false;
+    }
+    within_uwb(s.profile.capability.uwb, codec::uwb_settings(m, h.uwb))
 }
 
-fn eligible_cs(s: Session, set: u16, c: Configuration) -> bool
-    ensures { λ r. ⌜ r ≡ eligible (s .profile) set c (onSession .barred s) cs ⌝ }
+fn eligible_cs(s: Session, h: Heard, m: &[u8]) -> bool
+    ensures { λ r. ⌜ r ≡ eligible (s .profile) (h .set) (settingsAt h (now (m .entry))) (onSession .barred s) cs ⌝ }
 {
-    let named = both_have(set, s.profile.set, CS);
-    named & within_cs(s.profile.capability.cs, c.cs)
+    let named = both_have(h.set, s.profile.set, CS);
+    if !named {
+        return false;
+    }
+    within_cs(s.profile.capability.cs, codec::cs_settings(m, h.cs))
 }
 
-fn eligible_nan(s: Session, set: u16, c: Configuration) -> bool
-    ensures { λ r. ⌜ r ≡ eligible (s .profile) set c (onSession .barred s) nan ⌝ }
+fn eligible_nan(s: Session, h: Heard, m: &[u8]) -> bool
+    ensures { λ r. ⌜ r ≡ eligible (s .profile) (h .set) (settingsAt h (now (m .entry))) (onSession .barred s) nan ⌝ }
 {
-    let named = both_have(set, s.profile.set, NAN);
-    named & within_nan(s.profile.capability.nan, c.nan)
+    let named = both_have(h.set, s.profile.set, NAN);
+    if !named {
+        return false;
+    }
+    within_nan(s.profile.capability.nan, codec::nan_settings(m, h.nan))
 }
 
-fn eligible_rssi(s: Session, set: u16, c: Configuration) -> bool
-    ensures { λ r. ⌜ r ≡ eligible (s .profile) set c (onSession .barred s) rssi ⌝ }
+fn eligible_rssi(s: Session, h: Heard, m: &[u8]) -> bool
+    ensures { λ r. ⌜ r ≡ eligible (s .profile) (h .set) (settingsAt h (now (m .entry))) (onSession .barred s) rssi ⌝ }
 {
-    both_have(set, s.profile.set, RSSI)
+    both_have(h.set, s.profile.set, RSSI)
 }
 
 // What a Configuration sets, which is all that is eligible, and message 3.
-pub(crate) fn configure(s: Session, set: u16, c: Configuration, out: &mut [u8]) -> Answer
-    ensures { λ r. ⌜ Answers (conclude (now (out .entry)) (configure onSession (s .profile) set c s)) (now (out .entry)) r (now (out .exit)) ⌝ }
+pub(crate) fn configure(s: Session, h: Heard, m: &[u8], out: &mut [u8]) -> Answer
+    ensures { λ r. ⌜ Answers (conclude (now (out .entry)) (configure onSession (s .profile) (h .set) (settingsAt h (now (m .entry))) s)) (now (out .entry)) r (now (out .exit)) ⌝ }
 {
-    let uwb = eligible_uwb(s, set, c);
-    let cs = eligible_cs(s, set, c);
-    let nan = eligible_nan(s, set, c);
-    let rssi = eligible_rssi(s, set, c);
+    let uwb = eligible_uwb(s, h, m);
+    let cs = eligible_cs(s, h, m);
+    let nan = eligible_nan(s, h, m);
+    let rssi = eligible_rssi(s, h, m);
     let those = set_naming(uwb, cs, nan, rssi);
     let w = deliver(
         s.profile.replies,

@@ -1,9 +1,14 @@
 // The session record, and what its calls return.
 use codec::Capability;
+use codec::Channel;
+use codec::ConfigId;
 use codec::NanConfiguration;
+use codec::PreambleIndex;
 use codec::Rssi;
 use codec::UwbConfiguration;
 ghost use mathlib.Core.Path.{_≡_};
+ghost use Rattle.codec.specs.Blocks.{configurations};
+ghost use Rattle.codec.specs.Records.{blank};
 ghost use Rattle.session.specs.Session.{fresh};
 
 // What the tag can do, with the choice of explicit replies: 0 not said, which means on, 1 on, 2 off.
@@ -66,31 +71,85 @@ pub struct Started {
     pub refusal: u8,
 }
 
-pub(crate) fn uwb_state(ranging: u8, settings: UwbConfiguration) -> UwbState
-    ensures { λ r. ⌜ r ≡ record { ranging = ranging; settings = settings } ⌝ }
+pub(crate) fn ranging_uwb(settings: UwbConfiguration) -> UwbState
+    ensures { λ r. ⌜ r ≡ record { ranging = 1; settings = settings } ⌝ }
 {
-    UwbState { ranging, settings }
+    UwbState {
+        ranging: 1,
+        settings,
+    }
 }
 
-pub(crate) fn nan_state(ranging: u8, settings: NanConfiguration) -> NanState
-    ensures { λ r. ⌜ r ≡ record { ranging = ranging; settings = settings } ⌝ }
+pub(crate) fn ranging_nan(settings: NanConfiguration) -> NanState
+    ensures { λ r. ⌜ r ≡ record { ranging = 1; settings = settings } ⌝ }
 {
-    NanState { ranging, settings }
+    NanState {
+        ranging: 1,
+        settings,
+    }
 }
 
-pub(crate) fn rssi_state(ranging: u8, settings: Rssi) -> RssiState
-    ensures { λ r. ⌜ r ≡ record { ranging = ranging; settings = settings } ⌝ }
+pub(crate) fn ranging_rssi(settings: Rssi) -> RssiState
+    ensures { λ r. ⌜ r ≡ record { ranging = 1; settings = settings } ⌝ }
 {
-    RssiState { ranging, settings }
+    RssiState {
+        ranging: 1,
+        settings,
+    }
+}
+
+// The states of technologies that are not ranging, each a literal: the compiler clears them where they lie.
+pub(crate) fn idle_uwb() -> UwbState
+    ensures { λ r. ⌜ r ≡ record { ranging = 0; settings = blank configurations .uwb } ⌝ }
+{
+    UwbState {
+        ranging: 0,
+        settings: UwbConfiguration {
+            address: [0; 2],
+            session_id: 0,
+            config_id: ConfigId(0),
+            channel: Channel(0),
+            preamble_index: PreambleIndex(0),
+            interval: 0,
+            slot: 0,
+            key_length: 0,
+            key: [0; 32],
+            country: [0; 2],
+            role: 0,
+            mode: 0,
+        },
+    }
+}
+
+pub(crate) fn idle_nan() -> NanState
+    ensures { λ r. ⌜ r ≡ record { ranging = 0; settings = blank configurations .nan } ⌝ }
+{
+    NanState {
+        ranging: 0,
+        settings: NanConfiguration {
+            name_length: 0,
+            name: [0; 64],
+            role: 0,
+            periodic: 0,
+        },
+    }
+}
+
+pub(crate) fn idle_rssi() -> RssiState
+    ensures { λ r. ⌜ r ≡ record { ranging = 0; settings = blank configurations .rssi } ⌝ }
+{
+    RssiState {
+        ranging: 0,
+        settings: Rssi { address: [0; 6] },
+    }
 }
 
 pub(crate) fn fresh(profile: Profile) -> Session
     ensures { λ r. ⌜ r ≡ fresh profile ⌝ }
 {
-    let none = codec::zero_configuration();
-    let uwb = uwb_state(0, none.uwb);
-    let nan = nan_state(0, none.nan);
-    let rssi = rssi_state(0, none.rssi);
+    let uwb = idle_uwb();
+    let nan = idle_nan();
+    let rssi = idle_rssi();
     Session {
         profile,
         uwb,

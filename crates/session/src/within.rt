@@ -63,12 +63,16 @@ fn has_role(roles: u8, role: u8) -> bool
 pub(crate) fn within_uwb(k: UwbCapability, x: UwbConfiguration) -> bool
     ensures { λ r. ⌜ r ≡ withinProfile uwb k x ⌝ }
 {
-    let config_id = has_config_id(k.config_ids, x.config_id);
-    let channel = has_channel(k.channels, x.channel);
-    let preamble_index = has_preamble_index(k.preamble_indexes, x.preamble_index);
-    let timing = (k.shortest_interval <= x.interval)
-        & ((k.shortest_slot <= x.slot) & has_role(k.roles, x.role));
-    config_id & (channel & (preamble_index & timing))
+    if !has_config_id(k.config_ids, x.config_id) {
+        return false;
+    }
+    if !has_channel(k.channels, x.channel) {
+        return false;
+    }
+    if !has_preamble_index(k.preamble_indexes, x.preamble_index) {
+        return false;
+    }
+    (k.shortest_interval <= x.interval) & ((k.shortest_slot <= x.slot) & has_role(k.roles, x.role))
 }
 
 pub(crate) fn within_cs(k: CsCapability, x: CsConfiguration) -> bool

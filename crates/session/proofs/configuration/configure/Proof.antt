@@ -1,6 +1,7 @@
 use mathlib.Core.List.{[], _∷_}
 use Rattle.session.specs.Rules.{setBy, configure}
 use Rattle.session.specs.Session.{onSession}
+use Rattle.codec.specs.Inner.Places.{settingsAt}
 use Rattle.codec.proofs.SetLaws.{bits-below}
 use Rattle.session.proofs.Steps.{settled}
 use borrow.Author.Needs.{needs}
@@ -12,9 +13,10 @@ deliver-requires c κs = rw (c .before .set-naming .ensures) (bits-below ((c .be
 
 returns : tie.Need-returns
 unfolding setBy
-returns c = let s = c .before .before .before .before .before .before .before .before .before .before .before .args .s in
+returns c =
+    let a = c .before .before .before .before .before .before .before .before .before .before .before .before .args in
     let k = rw (c .before .before .before .before .before .before .before .before .before .eligible-uwb .ensures, c .before .before .before .before .before .before .before .before .eligible-cs .ensures, c .before .before .before .before .before .before .before .eligible-nan .ensures, c .before .before .before .before .before .before .eligible-rssi .ensures) at (c .before .before .before .before .before .set-naming .ensures) in
-    rw (c .answered .ensures, k) (settled (configure onSession (s .profile) (c .before .before .before .before .before .before .before .before .before .before .before .args .set) (c .before .before .before .before .before .before .before .before .before .before .before .args .c) s) (rw k at (c .before .before .before .deliver .ensures)))
+    rw (c .answered .ensures, k) (settled (configure onSession (a .s .profile) (a .h .set) (settingsAt (a .h) (a .m .now)) (a .s)) (rw k at (c .before .before .before .deliver .ensures)))
 
 pub configure-spec : {M : Type 1} → statement M
 configure-spec =
