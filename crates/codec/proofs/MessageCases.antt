@@ -4,12 +4,12 @@ use native.Mathlib.Omega.{arith}
 use native.Mathlib.Nat.{eq-or-lt-of-le}
 use mathlib.Core.Logic.{⊎-elim}
 use mathlib.Core.Path.{_≡_, refl, sym, ap, _∙_}
-use mathlib.Core.Bool.{Bool, true, false, _&&_}
+use mathlib.Core.Bool.{Bool, true, false}
 use mathlib.Core.List.{List, []}
-use lib.Dec.{leb, eqb, ltb}
+use lib.Dec.{leb}
 use lib.ListN.{length, getD}
 use borrow.Author.Tests.{le-leb, lt-leb, leb-true, leb-false, ne-eqb}
-use Rattle.codec.specs.Refusal.{Checked, refuse, accept, andThen, numberOf, tooLong, endsEarly, reservedId, wrongVersion, setsDiffer, leftOver}
+use Rattle.codec.specs.Refusal.{Checked, refuse, accept, andThen, numberOf, tooLong, endsEarly, reservedId, wrongVersion, setsDiffer}
 use Rattle.codec.specs.Layout.{Layout, member}
 use Rattle.codec.specs.Table.{messageLimit, assigned, readable, Row, row, blockCount, layoutsOf}
 use Rattle.codec.specs.Message.{versionOf, idOf, setOf, setsAgree, blocksAt, noId, Walked, walk, endFault, blocksFrom, afterHead, body, parse}
@@ -56,16 +56,7 @@ assigned-under id e =
     absurd (omega arith))
     (λ n. omega (arith, leb-false 8 id n))
 
--- ---- the end of the message, and the blocks
-
-module _ (m : List ℕ) (end : ℕ) where
-  pub end-left : (eqb (versionOf m) 1 && ltb end (length m)) ≡ true → numberOf leftOver ≡ numberIn (endFault m end)
-  unfolding endFault
-  end-left t = rw t
-
-  pub end-none : (eqb (versionOf m) 1 && ltb end (length m)) ≡ false → 0 ≡ numberIn (endFault m end)
-  unfolding endFault
-  end-none t = rw t
+-- ---- the blocks, and the end of the message
 
 module _ (layouts : ℕ → Layout) (m : List ℕ) (n at : ℕ) (found : List ℕ) {f : ℕ} {left : List ℕ} (l : length left ≡ 5) (h : Finds (walk layouts (setOf m) m n noId at) at found f left) where
   pub blocks-stop : (f ≡ 0 → ⊥) → Judged true (blocksFrom layouts m n at) at found f left

@@ -29,7 +29,10 @@ pub const MESSAGE_LIMIT: usize = 256;
 fn readable(version: u8, id: u8) -> bool
     ensures { λ r. ⌜ r ≡ readable version id ⌝ }
 {
-    (version == 1) | ((1 < version) & (id < 2))
+    if version == 1 {
+        return true;
+    }
+    (1 < version) & (id < 2)
 }
 
 // The rule for the end of the message, from the place after its known part.
@@ -37,7 +40,10 @@ fn end_fault(m: &[u8], end: usize) -> u8
     requires { ⌜ 4 ≤ length (now m) ⌝ }
     ensures { λ r. ⌜ r ≡ numberIn (endFault (now (m .entry)) end) ⌝ }
 {
-    if (m[0] == 1) & (end < m.len()) {
+    if m.len() <= end {
+        return 0;
+    }
+    if m[0] == 1 {
         return LEFT_OVER;
     }
     0

@@ -20,7 +20,7 @@ ghost use Prim.Native.Nat.{_+_, _≤_};
 ghost use lib.ListN.{length, drop};
 ghost use Rattle.codec.specs.Octets.{allZero};
 ghost use Rattle.codec.specs.Layout.{spelled, inside, test, zeroed, write, value, fault};
-ghost use Rattle.codec.specs.Blocks.{interval, keyLength, country, country, uwbCapability, uwbConfiguration, uwbAfterKey};
+ghost use Rattle.codec.specs.Blocks.{interval, keyLength, country, uwbCapability, uwbConfiguration, uwbAfterKey};
 ghost use Rattle.codec.specs.Records.{toUwbCapability, toUwbConfiguration, ofUwbCapability, ofUwbConfiguration};
 ghost use Rattle.codec.specs.Valid.{validFields};
 ghost use Rattle.codec.specs.Inner.Puts.{Put, blockIf, setOctets, beforeKey, afterKey};
