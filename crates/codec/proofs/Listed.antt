@@ -4,12 +4,12 @@ use native.Mathlib.Numerals.{sub-one}
 use mathlib.Core.Path.{_≡_, refl, sym, ap, _∙_}
 use mathlib.Core.List.{List, []}
 use lib.ListN.{length, getD}
+use borrow.Author.Tests.{ne-eqb}
 use Rattle.codec.specs.Refusal.{Checked, refuse, accept}
 use Rattle.codec.specs.Table.{row, blockCount, layoutsOf}
 use Rattle.codec.specs.Message.{idOf, setOf, blocksAt, blockAt, placeAfter, also, noId, blockFault, Walked, prepend, walk, parse}
 use Rattle.codec.specs.Listing.{noBlock, nthFrom, listed, nthBlock}
-use Rattle.codec.specs.Inner.Places.{numberIn, headAt, Passes, NthBlock}
-use Rattle.codec.specs.declared.records.Block.{Block}
+use Rattle.codec.specs.Inner.Places.{numberIn, listedAt, Heads, Passes, NthPlace}
 use Rattle.codec.proofs.Outcomes.{by-number, chained}
 use Rattle.codec.proofs.WalkCases.{Sound, sound}
 use Rattle.codec.proofs.Found.{parsed, four}
@@ -29,12 +29,15 @@ module _ (m : List ℕ) (at : ℕ) where
       k (record { layouts = p .layouts; set = p .set; came = came; walked = w; accepted = rw (sub-one (suc left)) e₂ }) (sound (p .layouts) (p .set) m (p .came) at a) (cc)
 
   module _ (left : ℕ) where
-    pub lists-none : (n : ℕ) → left ≡ 0 → NthBlock m left at n noBlock
+    none-left : (n : ℕ) (p : Passes m left at) → left ≡ 0 → noBlock ≡ nthFrom (p .walked .blocks) at n
     unfolding walk
-    lists-none n z p =
+    none-left n p z =
         let e : _≡_ {A = Checked Walked} (accept (record { blocks = []; end = at })) (accept (p .walked)) = rw z at (p .accepted) in
         let q : _≡_ {A = Walked} (record { blocks = []; end = at }) (p .walked) = cc in
         ap (λ (w : Walked). nthFrom (w .blocks) at n) q
+
+    pub lists-none : (n : ℕ) → left ≡ 0 → NthPlace m left at n 0
+    lists-none n z = record { heads = λ h. absurd (h refl); lists = λ p. none-left n p z }
 
     module _ (some : left ≡ 0 → ⊥) where
       pub head-there : Passes m left at → at + 2 ≤ length m
@@ -43,16 +46,19 @@ module _ (m : List ℕ) (at : ℕ) where
       pub passes-next : Passes m left at → Passes m (left - 1) (placeAfter m at)
       passes-next p = turn left p some λ q s e. q
 
-      pub lists-first : (n : ℕ) → n ≡ 0 → NthBlock m left at n (headAt m at)
-      lists-first n z p = turn left p some λ q s e. rw (z, ← e, s .first, s .size)
+      pub lists-first : (n : ℕ) → n ≡ 0 → Passes m left at → (at ≡ 0 → ⊥) → NthPlace m left at n at
+      lists-first n z p h = record { heads = λ h. head-there p; lists = λ p. turn left p some λ q s e. rw (ne-eqb at 0 h, z, ← e, s .first, s .size) }
 
-      pub lists-next : (n : ℕ) (r : Block) → (n ≡ 0 → ⊥) → NthBlock m (left - 1) (placeAfter m at) (n - 1) r → NthBlock m left at n r
-      lists-next zero r z h p = absurd (z refl)
-      lists-next (suc n) r z h p =
-          turn left p some λ q s e.
-          (rw (sub-one (suc n)) at h) q
-          ∙ ap (λ (i : ℕ). nthFrom (q .walked .blocks) (at + i) n) (sym (s .size))
-          ∙ ap (λ (w : Walked). nthFrom (w .blocks) at (suc n)) e
+      pub lists-next : (n r : ℕ) → (n ≡ 0 → ⊥) → NthPlace m (left - 1) (placeAfter m at) (n - 1) r → NthPlace m left at n r
+      lists-next zero r z h = absurd (z refl)
+      lists-next (suc n) r z h = record {
+        heads = h .heads;
+        lists = λ p.
+            turn left p some λ q s e.
+            (rw (sub-one (suc n)) at (h .lists)) q
+            ∙ ap (λ (i : ℕ). nthFrom (q .walked .blocks) (at + i) n) (sym (s .size))
+            ∙ ap (λ (w : Walked). nthFrom (w .blocks) at (suc n)) e;
+      }
 
 -- ---- a message, by the number of its first fault
 
@@ -75,6 +81,6 @@ module _ (m : List ℕ) (f : ℕ) (e : f ≡ numberIn (parse m)) where
     pub passes-all : Passes m (blockCount (row (idOf m) .column) (setOf m)) (blocksAt (row (idOf m) .times))
     passes-all = by-number (parse m) (sym e ∙ z) λ blocks a. passes m blocks a
 
-    pub lists-message : (n : ℕ) (r : Block) → NthBlock m (blockCount (row (idOf m) .column) (setOf m)) (blocksAt (row (idOf m) .times)) n r → r ≡ nthBlock m n
+    pub lists-message : (n r : ℕ) → NthPlace m (blockCount (row (idOf m) .column) (setOf m)) (blocksAt (row (idOf m) .times)) n r → Heads m r × (listedAt m r ≡ nthBlock m n)
     unfolding nthBlock
-    lists-message n r h = by-number (parse m) (sym e ∙ z) λ blocks a. rw a (h (passes m blocks a))
+    lists-message n r h = (h .heads, by-number (parse m) (sym e ∙ z) λ blocks a. rw a (h .lists (passes m blocks a)))

@@ -13,7 +13,7 @@ use Rattle.codec.specs.Blocks.{Column, capabilities, configurations, cel
 use Rattle.codec.specs.Table.{messageOf, Row}
 use Rattle.codec.specs.Records.{StructOf, make, blank}
 use Rattle.codec.specs.Message.{Walked, walk, idOf, setOf, blockAt}
-use Rattle.codec.specs.Listing.{nthFrom}
+use Rattle.codec.specs.Listing.{noBlock, nthFrom}
 use Rattle.codec.specs.declared.records.Record.{Record}
 use Rattle.codec.specs.declared.records.Block.{Block}
 
@@ -112,9 +112,13 @@ pub record Placed (k : Column) (m found : List ℕ) : Type 0 where
 
 -- ---- the listing: the blocks that are left from a place on
 
--- the head of the block at a place
-abbrev pub headAt : List ℕ → ℕ → Block
-headAt m at = record { place = at; id = getD m at 0; size = getD m (at + 1) 0 }
+-- the block at a place, none at 0
+abbrev pub listedAt : List ℕ → ℕ → Block
+listedAt m at = cond (eqb at 0) noBlock (record { place = at; id = getD m at 0; size = getD m (at + 1) 0 })
+
+-- a place with a block's two head octets, or 0
+abbrev pub Heads : List ℕ → ℕ → Type 0
+Heads m at = (at ≡ 0 → ⊥) → at + 2 ≤ length m
 
 -- the walk passes over as many blocks
 pub record Passes (m : List ℕ) (left at : ℕ) : Type 0 where
@@ -124,6 +128,7 @@ pub record Passes (m : List ℕ) (left at : ℕ) : Type 0 where
   pub walked : Walked
   pub accepted : walk layouts set m left came at ≡ accept walked
 
--- the n-th of them
-abbrev pub NthBlock : List ℕ → ℕ → ℕ → ℕ → Block → Type 0
-NthBlock m left at n r = (p : Passes m left at) → r ≡ nthFrom (p .walked .blocks) at n
+-- the place of the n-th of them, 0 for none
+pub record NthPlace (m : List ℕ) (left at n r : ℕ) : Type 0 where
+  pub heads : Heads m r
+  pub lists : (p : Passes m left at) → listedAt m r ≡ nthFrom (p .walked .blocks) at n
