@@ -70,7 +70,7 @@ fn blocks_fault(m: &[u8], at: usize, found: &mut [u16; 5]) -> u8
 {
     let set = u16_at(m, 2);
     let view = m;
-    let fault = walk(&view, at, u16::count_ones(set), set, found);
+    let fault = walk(&view, at, u16::count_ones(set), set as u32, found);
     if fault != 0 {
         return fault;
     }

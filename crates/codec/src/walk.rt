@@ -5,7 +5,7 @@ use crate::refusal::BLOCK_TOO_SMALL;
 use crate::refusal::ENDS_EARLY;
 use crate::refusal::WRONG_BLOCK;
 use crate::technology::RESERVED;
-use crate::technology::has;
+use crate::technology::has_bit;
 use crate::technology::without;
 use crate::walker::next_place;
 ghost use mathlib.Core.Path.{_≡_};
@@ -45,7 +45,7 @@ fn fields_fault(m: &[u8], at: usize, id: u8) -> u8
 
 // The first fault of the block at a place, 0 for none. `awaited` has a bit for each ID in the set that has not come yet. A block of
 // an unknown technology is passed over by its size.
-fn block_fault(m: &[u8], at: usize, awaited: u16) -> u8
+fn block_fault(m: &[u8], at: usize, awaited: u32) -> u8
     requires { ⌜ (4 ≤ length (now m)) × (at ≤ length (now m)) ⌝ }
     ensures { λ f. ⌜ f ≡ numberIn (awaitedFault (layoutsBy (idOf (now (m .entry)))) (now (m .entry)) awaited at) ⌝ }
 {
@@ -53,7 +53,7 @@ fn block_fault(m: &[u8], at: usize, awaited: u16) -> u8
         return ENDS_EARLY;
     }
     let id = m[at];
-    if !has(awaited, id) {
+    if !has_bit(awaited, id) {
         return WRONG_BLOCK;
     }
     if id < RESERVED {
@@ -76,7 +76,7 @@ fn note(id: u8, at: u16, found: &mut [u16; 5])
 // The first fault of the blocks that are left, from a place on. For none it is 0, and `found` has the places of the known
 // technologies' blocks and the place after the last block. The message is behind a second reference, so that the compiler makes
 // a loop of the recursion.
-pub(crate) fn walk(m: &&[u8], at: usize, left: u32, awaited: u16, found: &mut [u16; 5]) -> u8
+pub(crate) fn walk(m: &&[u8], at: usize, left: u32, awaited: u32, found: &mut [u16; 5]) -> u8
     requires { ⌜ (4 ≤ length (now (now m))) × (length (now (now m)) ≤ messageLimit) × (at ≤ length (now (now m))) × (length (now found) ≡ 5) ⌝ }
     ensures { λ f. ⌜ ((set : ℕ) (came : ℕ → Bool) → Awaits set came awaited → Finds (walk (layoutsBy (idOf (now (now (m .entry))))) set (now (now (m .entry))) left came at) at (now (found .entry)) f (now (found .exit))) × (length (now (found .exit)) ≡ 5) ⌝ }
 {

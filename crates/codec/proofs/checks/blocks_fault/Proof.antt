@@ -31,6 +31,7 @@ blocks-fault-spec =
     (tie.spec
     (search needs)
     (search needs)
+    (search needs)
     returns
     (search needs)
     (search needs)

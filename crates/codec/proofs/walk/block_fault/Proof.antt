@@ -20,13 +20,13 @@ two : (c : tie.Else1) → c .before .before .args .at + 2 ≤ length (c .before 
 two c = omega arith
 
 comes : (c : tie.Else2) → bit (c .before .before .before .before .before .args .awaited) (getD (c .before .before .before .before .before .args .m .now) (c .before .before .before .before .before .args .at) 0) ≡ true
-comes c = passed (c .before .has .ensures) (c .if2 .left)
+comes c = passed (c .before .has-bit .ensures) (c .if2 .left)
 
 returns : tie.Need-returns
 returns c = let l : length (c .before .before .args .m .now) < c .before .before .args .at + 2 = omega arith in rw (lt-leb _ _ l)
 
 returns-2 : tie.Need-returns-2
-returns-2 c = rw (le-leb _ _ (two (c .before .before .before)), failed (c .before .has .ensures) (c .if2 .taken))
+returns-2 c = rw (le-leb _ _ (two (c .before .before .before)), failed (c .before .has-bit .ensures) (c .if2 .taken))
 
 returns-3 : tie.Need-returns-3
 returns-3 c = rw (le-leb _ _ (two (c .before .before .before .before .before)), comes (c .before .before)) (c .fields-fault .ensures)
