@@ -13,8 +13,9 @@ use Rattle.codec.specs.Refusal.{Checked, refuse, accept, andThen, number
 use Rattle.codec.specs.Layout.{Layout, member}
 use Rattle.codec.specs.Table.{messageLimit, assigned, readable, Row, row, blockCount, layoutsOf}
 use Rattle.codec.specs.Message.{versionOf, idOf, setOf, setsAgree, blocksAt, noId, Walked, walk, endFault, blocksFrom, afterHead, body, parse}
-use Rattle.codec.specs.Inner.Places.{numberIn, noted, setAlone, Finds, Judged}
+use Rattle.codec.specs.Inner.Places.{numberIn, noted, setAlone, Finds, FindsLeft, Judged}
 use Rattle.codec.proofs.Outcomes.{by-bool, no-zero}
+use Rattle.codec.proofs.WalkCases.{awaits-all}
 
 -- ---- what is judged
 
@@ -58,26 +59,30 @@ assigned-under id e =
 
 -- ---- the blocks, and the end of the message
 
-module _ (layouts : ℕ → Layout) (m : List ℕ) (n at : ℕ) (found : List ℕ) {f : ℕ} {left : List ℕ} (l : length left ≡ 5) (h : Finds (walk layouts (setOf m) m n noId at) at found f left) where
-  pub blocks-stop : (f ≡ 0 → ⊥) → Judged true (blocksFrom layouts m n at) at found f left
+module _ (layouts : ℕ → Layout) (m : List ℕ) (n at : ℕ) (found : List ℕ) {f : ℕ} {left : List ℕ} (h : FindsLeft layouts m at n (setOf m) found f left) where
+  -- from the first block on
+  finds : Finds (walk layouts (setOf m) m n noId at) at found f left
+  finds = h .finds (setOf m) noId (awaits-all (setOf m))
+
+  blocks-stop : (f ≡ 0 → ⊥) → Judged true (blocksFrom layouts m n at) at found f left
   unfolding blocksFrom
-  blocks-stop z = go (walk layouts (setOf m) m n noId at) h
+  blocks-stop z = go (walk layouts (setOf m) m n noId at) finds
     where
       go : (w : Checked Walked) → Finds w at found f left → Judged true (andThen w λ w. andThen (endFault m (w .end)) λ _. accept (w .blocks)) at found f left
-      go (refuse x) h = judged-refused h z l
-      go (accept w) h = absurd (z (h .0))
+      go (refuse x) e = judged-refused e z (h .size)
+      go (accept w) e = absurd (z (e .0))
 
-  pub blocks-end : {g : ℕ} → f ≡ 0 → g ≡ numberIn (endFault m (getD left 4 0)) → Judged true (blocksFrom layouts m n at) at found g left
+  blocks-end : {g : ℕ} → f ≡ 0 → g ≡ numberIn (endFault m (getD left 4 0)) → Judged true (blocksFrom layouts m n at) at found g left
   unfolding blocksFrom
-  blocks-end {g} z e = go (walk layouts (setOf m) m n noId at) h
+  blocks-end {g} z e = go (walk layouts (setOf m) m n noId at) finds
     where
       last : (w : Walked) (c : Checked (Unit {0})) → left ≡ noted (w .blocks) at found → g ≡ numberIn c → Judged true (andThen c λ _. accept (w .blocks)) at found g left
-      last w (refuse x) p e = judged-refused e (λ z. no-zero x (sym e ∙ z)) l
-      last w (accept u) p e = record { number = e; places = λ k blocks a. let q : w .blocks ≡ blocks = cc in p ∙ rw q; size = l }
+      last w (refuse x) p e = judged-refused e (λ z. no-zero x (sym e ∙ z)) (h .size)
+      last w (accept u) p e = record { number = e; places = λ k blocks a. let q : w .blocks ≡ blocks = cc in p ∙ rw q; size = h .size }
 
       go : (w : Checked Walked) → Finds w at found f left → Judged true (andThen w λ w. andThen (endFault m (w .end)) λ _. accept (w .blocks)) at found g left
-      go (refuse x) h = absurd (no-zero x (sym h ∙ z))
-      go (accept w) h = last w (endFault m (w .end)) (h .1) (e ∙ rw (h .2))
+      go (refuse x) k = absurd (no-zero x (sym k ∙ z))
+      go (accept w) k = last w (endFault m (w .end)) (k .1) (e ∙ rw (k .2))
 
 -- ---- the version, and what follows the head
 
@@ -100,9 +105,17 @@ module _ (m : List ℕ) where
       unfolding afterHead
       body-sets s = rw (← body-is, le-leb (blocksAt (R .times)) (length m) l, s)
 
-      pub body-blocks : setsAgree (R .times) m ≡ true → blocksFrom (layoutsOf (R .column)) m (blockCount (R .column) (setOf m)) (blocksAt (R .times)) ≡ body m
+      body-blocks : setsAgree (R .times) m ≡ true → blocksFrom (layoutsOf (R .column)) m (blockCount (R .column) (setOf m)) (blocksAt (R .times)) ≡ body m
       unfolding afterHead
       body-blocks s = rw (← body-is, le-leb (blocksAt (R .times)) (length m) l, s)
+
+      -- after the sets come the blocks, and then the end
+      module _ (s : setsAgree (R .times) m ≡ true) {found : List ℕ} {f : ℕ} {left : List ℕ} (h : FindsLeft (layoutsOf (R .column)) m (blocksAt (R .times)) (blockCount (R .column) (setOf m)) (setOf m) found f left) where
+        pub body-stop : (f ≡ 0 → ⊥) → Judged true (body m) (blocksAt (R .times)) found f left
+        body-stop z = judged-as (blocks-stop _ m _ _ found h z) (body-blocks s)
+
+        pub body-end : {g : ℕ} → f ≡ 0 → g ≡ numberIn (endFault m (getD left 4 0)) → Judged true (body m) (blocksAt (R .times)) found g left
+        body-end z e = judged-as (blocks-end _ m _ _ found h z e) (body-blocks s)
 
   -- after a set alone comes the end
   pub set-end : readable (versionOf m) (idOf m) ≡ true → row (idOf m) ≡ setAlone → 4 ≤ length m → numberIn (endFault m 4) ≡ numberIn (body m)

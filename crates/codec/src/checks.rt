@@ -13,15 +13,15 @@ use crate::refusal::RESERVED_ID;
 use crate::refusal::SETS_DIFFER;
 use crate::refusal::TOO_LONG;
 use crate::refusal::WRONG_VERSION;
-use crate::walk::walk;
+use crate::walk::walk_capabilities;
+use crate::walk::walk_configurations;
 ghost use mathlib.Core.Path.{_≡_};
 ghost use mathlib.Core.Bool.{true};
 ghost use Prim.Native.Nat.{_≤_};
-ghost use lib.Count.{ones};
 ghost use lib.ListN.{length};
 ghost use Rattle.codec.specs.Table.{messageLimit, readable, row};
-ghost use Rattle.codec.specs.Message.{idOf, setOf, endFault, blocksFrom, body, parse, blocksAt};
-ghost use Rattle.codec.specs.Inner.Places.{numberIn, layoutsBy, setAlone, carriesBlocks, Judged};
+ghost use Rattle.codec.specs.Message.{idOf, endFault, body, parse, blocksAt};
+ghost use Rattle.codec.specs.Inner.Places.{numberIn, setAlone, carriesBlocks, Judged};
 
 // A message has at most so many octets.
 pub const MESSAGE_LIMIT: usize = 256;
@@ -63,20 +63,6 @@ fn set_fault(m: &[u8]) -> u8
     end_fault(m, 4)
 }
 
-// The first fault from the blocks on; for none it is 0, and `found` has the places of the blocks.
-fn blocks_fault(m: &[u8], at: usize, found: &mut [u16; 5]) -> u8
-    requires { ⌜ (4 ≤ length (now m)) × (length (now m) ≤ messageLimit) × (at ≤ length (now m)) × (length (now found) ≡ 5) ⌝ }
-    ensures { λ f. ⌜ Judged true (blocksFrom (layoutsBy (idOf (now (m .entry)))) (now (m .entry)) (ones (setOf (now (m .entry)))) at) at (now (found .entry)) f (now (found .exit)) ⌝ }
-{
-    let set = u16_at(m, 2);
-    let view = m;
-    let fault = walk(&view, at, u16::count_ones(set), set as u32, found);
-    if fault != 0 {
-        return fault;
-    }
-    end_fault(m, wide(found[4]))
-}
-
 // The first fault from the version on of a Capability Response.
 fn response_fault(m: &[u8], found: &mut [u16; 5]) -> u8
     requires { ⌜ (2 ≤ length (now m)) × (length (now m) ≤ messageLimit) × (idOf (now m) ≡ 1) × (length (now found) ≡ 5) ⌝ }
@@ -88,7 +74,13 @@ fn response_fault(m: &[u8], found: &mut [u16; 5]) -> u8
     if m.len() < 4 {
         return ENDS_EARLY;
     }
-    blocks_fault(m, 4, found)
+    let set = u16_at(m, 2);
+    let view = m;
+    let fault = walk_capabilities(&view, 4, u16::count_ones(set), set as u32, found);
+    if fault != 0 {
+        return fault;
+    }
+    end_fault(m, wide(found[4]))
 }
 
 // The first fault from the version on of a Configuration.
@@ -102,10 +94,16 @@ fn configuration_fault(m: &[u8], found: &mut [u16; 5]) -> u8
     if m.len() < 6 {
         return ENDS_EARLY;
     }
-    if u16_at(m, 2) != u16_at(m, 4) {
+    let set = u16_at(m, 2);
+    if set != u16_at(m, 4) {
         return SETS_DIFFER;
     }
-    blocks_fault(m, 6, found)
+    let view = m;
+    let fault = walk_configurations(&view, 6, u16::count_ones(set), set as u32, found);
+    if fault != 0 {
+        return fault;
+    }
+    end_fault(m, wide(found[4]))
 }
 
 // The first fault of a message; for none it is 0, and `found` has the places of the blocks of message 1 or 2.

@@ -15,6 +15,7 @@ use crate::records::refused_for_tag;
 use crate::records::zero_capability;
 use crate::records::zero_configuration;
 use crate::rssi;
+use crate::sizes::block_octets;
 use crate::technology::SET_LIMIT;
 use crate::uwb;
 ghost use mathlib.Core.Path.{_≡_};
@@ -34,9 +35,7 @@ fn block_or_zeros<'a>(m: &'a [u8], at: u16, zeros: &'a [u8]) -> &'a [u8]
     if at == 0 {
         return zeros;
     }
-    let i = at as usize;
-    let end = i + m[i + 1] as usize;
-    &m[i..end]
+    block_octets(m, at as usize)
 }
 
 // What the blocks of message 1 at these places say.

@@ -1,12 +1,12 @@
 -- What the inner functions of the reader and of the listing keep: the places of the known technologies' blocks, and what reading a block without a fault rests on.
-use Prim.Native.Nat.{ℕ, _+_, _-_, _≤_}
+use Prim.Native.Nat.{ℕ, _+_, _≤_}
 use mathlib.Core.Path.{_≡_}
 use mathlib.Core.List.{List, [], _∷_}
 use mathlib.Core.Option.{Option, none, some}
 use mathlib.Core.Bool.{Bool, true, false, _&&_, not, cond}
 use lib.Dec.{leb, ltb, eqb}
 use lib.ListN.{length, getD, set, replicate}
-use Rattle.codec.specs.Refusal.{Checked, refuse, accept, demand, andThen, numberOf, endsEarly, wrongBlock, blockTooSmall}
+use Rattle.codec.specs.Refusal.{Checked, refuse, accept, demand, numberOf, endsEarly, wrongBlock, blockTooSmall}
 use Rattle.codec.specs.Technology.{Technology, technologyId, technologies, bit, known}
 use Rattle.codec.specs.Layout.{Layout, number, octets, counted, value, least, fault}
 use Rattle.codec.specs.Blocks.{Column, capabilities, configurations, cell, layouts}
@@ -31,28 +31,28 @@ Roomy (counted y x t c ∷ L) at s = (getD s at 0 ≤ c) × Roomy L (at + 1 + ge
 
 -- ---- one block
 
--- its size, with so many octets left in the message
-abbrev pub sizeFault : ℕ → ℕ → ℕ → Checked (Unit {0})
-sizeFault least size left = demand (leb least size) blockTooSmall (demand (leb size left) endsEarly (accept tt))
+-- its head: both octets there, and the ID is one in the set that has not come yet
+abbrev pub awaitedFault : ℕ → List ℕ → ℕ → Checked (Unit {0})
+awaitedFault awaited m at = demand (leb (at + 2) (length m)) endsEarly (demand (bit awaited (getD m at 0)) wrongBlock (accept tt))
 
-module _ (layouts : ℕ → Layout) (m : List ℕ) where
-  -- its size and its fields
-  abbrev pub fieldsFault : ℕ → Checked (Unit {0})
-  fieldsFault at =
-      let layout = layouts (getD m at 0) in
-      andThen (sizeFault (least layout 2) (getD m (at + 1) 0) (length m - at)) λ _. fault layout 2 (blockAt m at)
+-- its size
+abbrev pub sizeFault : ℕ → List ℕ → ℕ → Checked (Unit {0})
+sizeFault least m at = demand (leb least (getD m (at + 1) 0)) blockTooSmall (demand (leb (at + getD m (at + 1) 0) (length m)) endsEarly (accept tt))
 
-  -- its first fault, told from the IDs in the set that have not come yet
-  abbrev pub awaitedFault : ℕ → ℕ → Checked (Unit {0})
-  awaitedFault awaited at = demand (leb (at + 2) (length m)) endsEarly (demand (bit awaited (getD m at 0)) wrongBlock (fieldsFault at))
+-- its size and its fields, by a layout
+abbrev pub layoutFault : Layout → List ℕ → ℕ → Checked (Unit {0})
+layoutFault L m at =
+    demand (leb (least L 2) (getD m (at + 1) 0)) blockTooSmall
+    (demand (leb (at + getD m (at + 1) 0) (length m)) endsEarly
+    (fault L 2 (blockAt m at)))
+
+-- by the layout of its ID
+abbrev pub fieldsFault : (ℕ → Layout) → List ℕ → ℕ → Checked (Unit {0})
+fieldsFault layouts m at = layoutFault (layouts (getD m at 0)) m at
 
 -- `awaited` has the IDs in the set that have not come yet
 abbrev pub Awaits : ℕ → (ℕ → Bool) → ℕ → Type 0
 Awaits set came awaited = (id : ℕ) → bit awaited id ≡ (bit set id && not (came id))
-
--- the layouts of the blocks of message 1, or else those of message 2, as the code asks for them
-abbrev pub layoutsBy : ℕ → ℕ → Layout
-layoutsBy message = layouts (cond (eqb message 1) capabilities configurations)
 
 -- ---- five numbers: the place of each known technology's block, 0 for none, and the place after the last block
 
@@ -68,6 +68,11 @@ noted (b ∷ blocks) at found = noted blocks (at + length b) (note (getD b 0 0) 
 abbrev pub Finds : Checked Walked → ℕ → List ℕ → ℕ → List ℕ → Type 0
 Finds (refuse x) at found f left = f ≡ numberOf x
 Finds (accept w) at found f left = (f ≡ 0) × (left ≡ noted (w .blocks) at found) × (getD left 4 0 ≡ w .end)
+
+-- of the blocks that are left from a place on, whatever came before them
+pub record FindsLeft (layouts : ℕ → Layout) (m : List ℕ) (at left awaited : ℕ) (found : List ℕ) (f : ℕ) (after : List ℕ) : Type 0 where
+  pub finds : (set : ℕ) (came : ℕ → Bool) → Awaits set came awaited → Finds (walk layouts set m left came at) at found f after
+  pub size : length after ≡ 5
 
 -- a message that carries a set alone, and one with blocks
 abbrev pub setAlone : Row
