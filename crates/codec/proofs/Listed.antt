@@ -6,10 +6,10 @@ use mathlib.Core.List.{List, []}
 use lib.ListN.{length, getD}
 use borrow.Author.Tests.{ne-eqb}
 use Rattle.codec.specs.Refusal.{Checked, refuse, accept}
-use Rattle.codec.specs.Table.{row, blockCount, layoutsOf}
+use Rattle.codec.specs.Table.{Row, row, blockCount, layoutsOf}
 use Rattle.codec.specs.Message.{idOf, setOf, blocksAt, blockAt, placeAfter, also, noId, blockFault, Walked, prepend, walk, parse}
 use Rattle.codec.specs.Listing.{noBlock, nthFrom, listed, nthBlock}
-use Rattle.codec.specs.Inner.Places.{numberIn, listedAt, Heads, Passes, NthPlace}
+use Rattle.codec.specs.Inner.Places.{numberIn, setAlone, Passes, NthPlace, Lists}
 use Rattle.codec.proofs.Outcomes.{by-number, chained}
 use Rattle.codec.proofs.WalkCases.{Sound, sound}
 use Rattle.codec.proofs.Found.{parsed, four}
@@ -60,27 +60,39 @@ module _ (m : List ℕ) (at : ℕ) where
             ∙ ap (λ (w : Walked). nthFrom (w .blocks) at (suc n)) e;
       }
 
--- ---- a message, by the number of its first fault
+-- ---- a message
 
-abbrev passes : (m : List ℕ) (blocks : List (List ℕ)) → parse m ≡ accept blocks → Passes m (blockCount (row (idOf m) .column) (setOf m)) (blocksAt (row (idOf m) .times))
-passes m blocks a = let p = parsed m blocks a in record { layouts = layoutsOf (row (idOf m) .column); set = setOf m; came = noId; walked = record { blocks = blocks; end = p .end }; accepted = p .walked }
+module _ (m : List ℕ) where
+  abbrev passes : (blocks : List (List ℕ)) → parse m ≡ accept blocks → Passes m (blockCount (row (idOf m) .column) (setOf m)) (blocksAt (row (idOf m) .times))
+  passes blocks a = let p = parsed m blocks a in record { layouts = layoutsOf (row (idOf m) .column); set = setOf m; came = noId; walked = record { blocks = blocks; end = p .end }; accepted = p .walked }
 
-module _ (m : List ℕ) (f : ℕ) (e : f ≡ numberIn (parse m)) where
-  pub lists-refused : (n : ℕ) → (f ≡ 0 → ⊥) → noBlock ≡ nthBlock m n
+  none : (n : ℕ) → noBlock ≡ nthBlock m n → Lists m n 0
+  none n e = record { heads = λ h. absurd (h refl); lists = e }
+
+  pub lists-alone : row (idOf m) ≡ setAlone → (n : ℕ) → Lists m n 0
   unfolding nthBlock
-  lists-refused n h = go (parse m) e
+  lists-alone e n = none n (go (parse m) refl)
     where
-      go : (c : Checked (List (List ℕ))) → f ≡ numberIn c → noBlock ≡ listed c (blocksAt (row (idOf m) .times)) n
-      go (refuse x) e = refl
-      go (accept blocks) e = absurd (h e)
+      go : (c : Checked (List (List ℕ))) → parse m ≡ c → noBlock ≡ listed c (blocksAt (row (idOf m) .times)) n
+      go (refuse x) a = refl
+      go (accept blocks) a = none-left m _ _ n (passes blocks a) (ap (λ (R : Row). blockCount (R .column) (setOf m)) e)
 
-  module _ (z : f ≡ 0) where
-    pub set-room : 4 ≤ length m
-    set-room = by-number (parse m) (sym e ∙ z) λ blocks a. four m blocks a
-
-    pub passes-all : Passes m (blockCount (row (idOf m) .column) (setOf m)) (blocksAt (row (idOf m) .times))
-    passes-all = by-number (parse m) (sym e ∙ z) λ blocks a. passes m blocks a
-
-    pub lists-message : (n r : ℕ) → NthPlace m (blockCount (row (idOf m) .column) (setOf m)) (blocksAt (row (idOf m) .times)) n r → Heads m r × (listedAt m r ≡ nthBlock m n)
+  module _ (f : ℕ) (e : f ≡ numberIn (parse m)) where
+    pub lists-refused : (n : ℕ) → (f ≡ 0 → ⊥) → Lists m n 0
     unfolding nthBlock
-    lists-message n r h = (h .heads, by-number (parse m) (sym e ∙ z) λ blocks a. rw a (h .lists (passes m blocks a)))
+    lists-refused n h = none n (go (parse m) e)
+      where
+        go : (c : Checked (List (List ℕ))) → f ≡ numberIn c → noBlock ≡ listed c (blocksAt (row (idOf m) .times)) n
+        go (refuse x) e = refl
+        go (accept blocks) e = absurd (h e)
+
+    module _ (z : f ≡ 0) where
+      pub set-room : 4 ≤ length m
+      set-room = by-number (parse m) (sym e ∙ z) λ blocks a. four m blocks a
+
+      pub passes-all : Passes m (blockCount (row (idOf m) .column) (setOf m)) (blocksAt (row (idOf m) .times))
+      passes-all = by-number (parse m) (sym e ∙ z) λ blocks a. passes blocks a
+
+      pub lists-message : (n r : ℕ) → NthPlace m (blockCount (row (idOf m) .column) (setOf m)) (blocksAt (row (idOf m) .times)) n r → Lists m n r
+      unfolding nthBlock
+      lists-message n r h = record { heads = h .heads; lists = by-number (parse m) (sym e ∙ z) λ blocks a. rw a (h .lists (passes blocks a)) }

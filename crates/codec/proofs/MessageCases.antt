@@ -13,8 +13,8 @@ use Rattle.codec.specs.Refusal.{Checked, refuse, accept, andThen, number
 use Rattle.codec.specs.Layout.{Layout, member}
 use Rattle.codec.specs.Table.{messageLimit, assigned, readable, Row, row, blockCount, layoutsOf}
 use Rattle.codec.specs.Message.{versionOf, idOf, setOf, setsAgree, blocksAt, noId, Walked, walk, endFault, blocksFrom, afterHead, body, parse}
-use Rattle.codec.specs.Inner.Places.{numberIn, noted, setAlone, Finds, FindsLeft, Judged}
-use Rattle.codec.proofs.Outcomes.{by-bool, no-zero}
+use Rattle.codec.specs.Inner.Places.{numberIn, headFault, noted, setAlone, Finds, FindsLeft, Judged}
+use Rattle.codec.proofs.Outcomes.{by-bool, by-number, no-zero, demanded, demand-stop}
 use Rattle.codec.proofs.WalkCases.{awaits-all}
 
 -- ---- what is judged
@@ -32,9 +32,9 @@ module _ {kept : Bool} {c : Checked (List (List ℕ))} {at : ℕ} {found left : 
 
 -- ---- message IDs
 
-pub six-or-seven : (id : ℕ) → 6 ≤ id → id < 8 → (row id ≡ setAlone) × (assigned id ≡ true)
+pub six-or-seven : (id : ℕ) → 6 ≤ id → id < 8 → assigned id ≡ true
 unfolding assigned member
-six-or-seven id l u = ⊎-elim (λ e. rw (← e) (refl, refl)) (λ h. let e : id ≡ 7 = omega arith in rw e (refl, refl)) (eq-or-lt-of-le l)
+six-or-seven id l u = ⊎-elim (λ e. rw (← e)) (λ h. let e : id ≡ 7 = omega arith in rw e) (eq-or-lt-of-le l)
 
 pub not-assigned : (id : ℕ) → (id ≡ 0 → ⊥) → (id ≡ 1 → ⊥) → (id ≡ 2 → ⊥) → (id ≡ 3 → ⊥) → (id ≡ 6 → ⊥) → (id ≡ 7 → ⊥) → assigned id ≡ false
 unfolding assigned member
@@ -126,21 +126,27 @@ module _ (m : List ℕ) where
       go (refuse x) = refl
       go (accept u) = refl
 
-  -- ---- the whole message
+-- ---- the head of a message, and then its body
 
-  pub parse-long : messageLimit < length m → numberOf tooLong ≡ numberIn (parse m)
-  unfolding parse
-  parse-long l = rw (lt-leb _ _ l)
+pub head-stop : (m : List ℕ) {f : ℕ} → f ≡ numberIn (headFault m) → (f ≡ 0 → ⊥) → f ≡ numberIn (parse m)
+unfolding parse
+head-stop m e h =
+    demand-stop (leb (length m) messageLimit) tooLong _ _
+    (demand-stop (leb 2 (length m)) endsEarly _ _
+    (demand-stop (assigned (idOf m)) reservedId _ _ (λ z. absurd (h z))))
+    e
 
-  pub parse-short : length m < 2 → numberOf endsEarly ≡ numberIn (parse m)
-  unfolding parse
-  parse-short l = rw (le-leb (length m) messageLimit (omega arith), lt-leb _ _ l)
+-- what a head without a fault says
+pub record Opened (m : List ℕ) : Type 0 where
+  pub limit : length m ≤ messageLimit
+  pub two : 2 ≤ length m
+  pub rest : body m ≡ parse m
 
-  module _ (u : length m ≤ messageLimit) (l : 2 ≤ length m) where
-    pub parse-reserved : assigned (idOf m) ≡ false → numberOf reservedId ≡ numberIn (parse m)
-    unfolding parse
-    parse-reserved e = rw (le-leb (length m) messageLimit u, le-leb 2 (length m) l, e)
-
-    pub parse-body : assigned (idOf m) ≡ true → body m ≡ parse m
-    unfolding parse
-    parse-body e = rw (le-leb (length m) messageLimit u, le-leb 2 (length m) l, e)
+pub opened : (m : List ℕ) {f : ℕ} → f ≡ numberIn (headFault m) → f ≡ 0 → Opened m
+unfolding parse
+opened m e z =
+    by-number (headFault m) (sym e ∙ z) λ u a.
+    demanded (leb (length m) messageLimit) tooLong _ u a λ p b.
+    demanded (leb 2 (length m)) endsEarly _ u b λ q d.
+    demanded (assigned (idOf m)) reservedId _ u d λ r k.
+    record { limit = leb-true _ _ p; two = leb-true _ _ q; rest = rw (p, q, r) }

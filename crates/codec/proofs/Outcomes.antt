@@ -1,7 +1,7 @@
 -- Laws of checks: what an acceptance says of each, and the number of a refusal.
 use Prim.Native.Nat.{ℕ}
 use native.Mathlib.Omega.{arith}
-use mathlib.Core.Path.{_≡_, refl, sym, _∙_}
+use mathlib.Core.Path.{_≡_, refl}
 use mathlib.Core.Bool.{Bool, true, false, _&&_, _||_}
 use Rattle.codec.specs.Refusal.{Refusal, tooLong, endsEarly, reservedId, wrongVersion, setsDiffer, blockTooSmall, wrongBlock, notAllowed, leftOver, notForTag, bufferTooShort, notValid, brokenRecord, numberOf, Checked, refuse, accept, demand, andThen}
 use Rattle.codec.specs.Inner.Places.{numberIn}
@@ -51,13 +51,7 @@ pub chained : {A B C : Type 0} (c : Checked A) (rest : A → Checked B) (b : B) 
 chained (refuse x) rest b e k = let z : _≡_ {A = ℕ} 0 1 = cc in absurd (omega arith)
 chained (accept a) rest b e k = k a refl e
 
--- two tests: the number of the one that fails stays whatever follows, and number 0 says that both hold
-module _ (a b : Bool) (x y : Refusal) where
-  abbrev both : Checked (Unit {0}) → Checked (Unit {0})
-  both rest = demand a x (demand b y rest)
-
-  pub both-stop : (rest : Checked (Unit {0})) {f : ℕ} → f ≡ numberIn (both (accept tt)) → (f ≡ 0 → ⊥) → f ≡ numberIn (both rest)
-  both-stop rest e h = by-bool a (λ p. by-bool b (λ q. absurd (h (rw (p, q) at e))) (λ q. rw (p, q) (rw (p, q) at e))) (λ p. rw p (rw p at e))
-
-  pub both-hold : {f : ℕ} → f ≡ numberIn (both (accept tt)) → f ≡ 0 → (a ≡ true) × (b ≡ true)
-  both-hold e z = by-number (both (accept tt)) (sym e ∙ z) λ u c. demanded a x _ u c λ p d. demanded b y _ u d λ q k. (p, q)
+-- the number of a test that fails stays, whatever follows
+pub demand-stop : {A B : Type 0} (t : Bool) (x : Refusal) (c : Checked A) (d : Checked B) {f : ℕ} → (f ≡ numberIn c → f ≡ numberIn d) → f ≡ numberIn (demand t x c) → f ≡ numberIn (demand t x d)
+demand-stop true x c d k e = k e
+demand-stop false x c d k e = e

@@ -16,7 +16,7 @@ use Rattle.codec.specs.Technology.{bit}
 use Rattle.codec.specs.Message.{blockAt, placeAfter, noId, also, blockFault, Walked, prepend, walk}
 use Rattle.codec.specs.Inner.Places.{numberIn, sizeFault, layoutFault, fieldsFault, awaitedFault, Awaits, note, noted, Finds, FindsLeft}
 use Rattle.codec.proofs.Laws.{part-length}
-use Rattle.codec.proofs.Outcomes.{by-bool, by-number, demanded, both-stop, both-hold}
+use Rattle.codec.proofs.Outcomes.{by-bool, by-number, demanded, demand-stop}
 use Rattle.codec.proofs.Layouts.{least-from}
 
 -- ---- a block's size, and then its fields by a layout
@@ -30,12 +30,12 @@ module _ (L : Layout) (m : List ℕ) (at : ℕ) where
 
   module _ {f : ℕ} (e : f ≡ numberIn (sizeFault (least L 2) m at)) where
     pub size-stop : (f ≡ 0 → ⊥) → f ≡ numberIn (layoutFault L m at)
-    size-stop = both-stop enough whole blockTooSmall endsEarly (fault L 2 (blockAt m at)) e
+    size-stop h = demand-stop enough blockTooSmall _ _ (demand-stop whole endsEarly _ _ (λ z. absurd (h z))) e
 
     -- what a size without a fault says
     module _ (z : f ≡ 0) where
       hold : (enough ≡ true) × (whole ≡ true)
-      hold = both-hold enough whole blockTooSmall endsEarly e z
+      hold = by-number (sizeFault (least L 2) m at) (sym e ∙ z) λ u a. demanded enough blockTooSmall _ u a λ p b. demanded whole endsEarly _ u b λ q d. (p, q)
 
       pub size-whole : at + getD m (at + 1) 0 ≤ length m
       size-whole = leb-true _ _ (hold .1)
@@ -136,7 +136,11 @@ module _ (m : List ℕ) (at awaited : ℕ) where
     pub comes : bit awaited (getD m at 0) ≡ true
 
   pub headed : {f : ℕ} → f ≡ numberIn (awaitedFault awaited m at) → f ≡ 0 → Headed
-  headed e z = let h = both-hold (leb (at + 2) (length m)) (bit awaited (getD m at 0)) endsEarly wrongBlock e z in record { two = leb-true _ _ (h .0); comes = h .1 }
+  headed e z =
+      by-number (awaitedFault awaited m at) (sym e ∙ z) λ u a.
+      demanded (leb (at + 2) (length m)) endsEarly _ u a λ p b.
+      demanded (bit awaited (getD m at 0)) wrongBlock _ u b λ q d.
+      record { two = leb-true _ _ p; comes = q }
 
   module _ (layouts : ℕ → Layout) where
     abbrev awaitedBlock : Checked (Unit {0})
@@ -154,7 +158,7 @@ module _ (m : List ℕ) (at awaited : ℕ) where
         stop {f} e h l = record { finds = λ s came w. find-stop layouts s m came at left f found found some (rw (w (getD m at 0)) at e) h; size = l }
 
         pub turn-head : {f : ℕ} → f ≡ numberIn (awaitedFault awaited m at) → (f ≡ 0 → ⊥) → length found ≡ 5 → FindsLeft layouts m at left awaited found f found
-        turn-head e h = stop (both-stop (leb (at + 2) (length m)) (bit awaited (getD m at 0)) endsEarly wrongBlock (fieldsFault layouts m at) e h) h
+        turn-head e h = stop (demand-stop (leb (at + 2) (length m)) endsEarly _ _ (demand-stop (bit awaited (getD m at 0)) wrongBlock _ _ (λ z. absurd (h z))) e) h
 
         module _ (d : Headed) {g : ℕ} (e : g ≡ numberIn (fieldsFault layouts m at)) where
           fields : g ≡ numberIn awaitedBlock

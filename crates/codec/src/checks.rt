@@ -1,10 +1,7 @@
 // The order of checks: the number of a message's first fault, and the places of its blocks where there is none.
-use crate::message::CAPABILITY_REQUEST;
 use crate::message::CAPABILITY_RESPONSE;
 use crate::message::CONFIGURATION;
-use crate::message::CONFIGURATION_RESPONSE;
-use crate::message::STOP;
-use crate::message::STOP_RESPONSE;
+use crate::message::assigned;
 use crate::octets::u16_at;
 use crate::octets::wide;
 use crate::refusal::ENDS_EARLY;
@@ -21,10 +18,26 @@ ghost use Prim.Native.Nat.{_≤_};
 ghost use lib.ListN.{length};
 ghost use Rattle.codec.specs.Table.{messageLimit, readable, row};
 ghost use Rattle.codec.specs.Message.{idOf, endFault, body, parse, blocksAt};
-ghost use Rattle.codec.specs.Inner.Places.{numberIn, setAlone, carriesBlocks, Judged};
+ghost use Rattle.codec.specs.Inner.Places.{numberIn, headFault, setAlone, carriesBlocks, Judged};
 
 // A message has at most so many octets.
 pub const MESSAGE_LIMIT: usize = 256;
+
+// The first fault in the head of a message, before its version, 0 for none.
+pub(crate) fn head_fault(m: &[u8]) -> u8
+    ensures { λ f. ⌜ f ≡ numberIn (headFault (now (m .entry))) ⌝ }
+{
+    if MESSAGE_LIMIT < m.len() {
+        return TOO_LONG;
+    }
+    if m.len() < 2 {
+        return ENDS_EARLY;
+    }
+    if !assigned(m[1]) {
+        return RESERVED_ID;
+    }
+    0
+}
 
 fn readable(version: u8, id: u8) -> bool
     ensures { λ r. ⌜ r ≡ readable version id ⌝ }
@@ -64,7 +77,7 @@ fn set_fault(m: &[u8]) -> u8
 }
 
 // The first fault from the version on of a Capability Response.
-fn response_fault(m: &[u8], found: &mut [u16; 5]) -> u8
+pub(crate) fn response_fault(m: &[u8], found: &mut [u16; 5]) -> u8
     requires { ⌜ (2 ≤ length (now m)) × (length (now m) ≤ messageLimit) × (idOf (now m) ≡ 1) × (length (now found) ≡ 5) ⌝ }
     ensures { λ f. ⌜ Judged true (body (now (m .entry))) 4 (now (found .entry)) f (now (found .exit)) ⌝ }
 {
@@ -84,7 +97,7 @@ fn response_fault(m: &[u8], found: &mut [u16; 5]) -> u8
 }
 
 // The first fault from the version on of a Configuration.
-fn configuration_fault(m: &[u8], found: &mut [u16; 5]) -> u8
+pub(crate) fn configuration_fault(m: &[u8], found: &mut [u16; 5]) -> u8
     requires { ⌜ (2 ≤ length (now m)) × (length (now m) ≤ messageLimit) × (idOf (now m) ≡ 2) × (length (now found) ≡ 5) ⌝ }
     ensures { λ f. ⌜ Judged true (body (now (m .entry))) 6 (now (found .entry)) f (now (found .exit)) ⌝ }
 {
@@ -111,16 +124,13 @@ pub(crate) fn message_fault(m: &[u8], found: &mut [u16; 5]) -> u8
     requires { ⌜ length (now found) ≡ 5 ⌝ }
     ensures { λ f. ⌜ Judged (carriesBlocks (row (idOf (now (m .entry))) .column)) (parse (now (m .entry))) (blocksAt (row (idOf (now (m .entry))) .times)) (now (found .entry)) f (now (found .exit)) ⌝ }
 {
-    if MESSAGE_LIMIT < m.len() {
-        return TOO_LONG;
-    }
-    if m.len() < 2 {
-        return ENDS_EARLY;
+    let fault = head_fault(m);
+    if fault != 0 {
+        return fault;
     }
     match m[1] {
-        CAPABILITY_REQUEST | CONFIGURATION_RESPONSE | STOP | STOP_RESPONSE => set_fault(m),
         CAPABILITY_RESPONSE => response_fault(m, found),
         CONFIGURATION => configuration_fault(m, found),
-        4..=5 | 8..=255 => RESERVED_ID,
+        _ => set_fault(m),
     }
 }

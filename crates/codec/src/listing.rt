@@ -1,13 +1,18 @@
 // The blocks of a message one by one, for diagnosis.
-use crate::checks::message_fault;
+use crate::checks::configuration_fault;
+use crate::checks::head_fault;
+use crate::checks::response_fault;
 use crate::message::CAPABILITY_RESPONSE;
 use crate::message::CONFIGURATION;
 use crate::octets::u16_at;
 use crate::records::Block;
 use crate::walker::next_place;
 ghost use mathlib.Core.Path.{_≡_};
+ghost use lib.Count.{ones};
+ghost use Rattle.codec.specs.Table.{row, blockCount};
+ghost use Rattle.codec.specs.Message.{idOf, setOf, blocksAt, parse};
 ghost use Rattle.codec.specs.Listing.{nthBlock};
-ghost use Rattle.codec.specs.Inner.Places.{listedAt, Heads, Passes, NthPlace};
+ghost use Rattle.codec.specs.Inner.Places.{numberIn, listedAt, Heads, Passes, NthPlace, Lists};
 
 // The block at a place, none at 0.
 fn block_at(m: &[u8], at: usize) -> Block
@@ -43,19 +48,29 @@ fn nth_place(m: &&[u8], at: usize, left: u32, n: usize) -> usize
     nth_place(m, next_place(*m, at), left - 1, n - 1)
 }
 
-// The place of the n-th block of a message, 0 for none.
-fn place_of(m: &[u8], n: usize) -> usize
-    ensures { λ r. ⌜ Heads (now (m .entry)) r × (listedAt (now (m .entry)) r ≡ nthBlock (now (m .entry)) n) ⌝ }
+// The place of the n-th block of a message, by its first fault and the place of its first block, 0 for none.
+fn place_by(m: &[u8], fault: u8, first: usize, n: usize) -> usize
+    requires { ⌜ (fault ≡ numberIn (parse (now m))) × (first ≡ blocksAt (row (idOf (now m)) .times)) × (blockCount (row (idOf (now m)) .column) (setOf (now m)) ≡ ones (setOf (now m))) ⌝ }
+    ensures { λ r. ⌜ Lists (now (m .entry)) n r ⌝ }
 {
-    let mut found = [0u16; 5];
-    let fault = message_fault(m, &mut found);
     if fault != 0 {
         return 0;
     }
     let view = m;
+    nth_place(&view, first, u16::count_ones(u16_at(m, 2)), n)
+}
+
+// The place of the n-th block of a message, 0 for none.
+fn place_of(m: &[u8], n: usize) -> usize
+    ensures { λ r. ⌜ Lists (now (m .entry)) n r ⌝ }
+{
+    if head_fault(m) != 0 {
+        return 0;
+    }
+    let mut found = [0u16; 5];
     match m[1] {
-        CAPABILITY_RESPONSE => nth_place(&view, 4, u16::count_ones(u16_at(m, 2)), n),
-        CONFIGURATION => nth_place(&view, 6, u16::count_ones(u16_at(m, 2)), n),
+        CAPABILITY_RESPONSE => place_by(m, response_fault(m, &mut found), 4, n),
+        CONFIGURATION => place_by(m, configuration_fault(m, &mut found), 6, n),
         _ => 0,
     }
 }

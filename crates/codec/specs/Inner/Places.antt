@@ -6,14 +6,14 @@ use mathlib.Core.Option.{Option, none, some}
 use mathlib.Core.Bool.{Bool, true, false, _&&_, not, cond}
 use lib.Dec.{leb, ltb, eqb}
 use lib.ListN.{length, getD, set, replicate}
-use Rattle.codec.specs.Refusal.{Checked, refuse, accept, demand, numberOf, endsEarly, wrongBlock, blockTooSmall}
+use Rattle.codec.specs.Refusal.{Checked, refuse, accept, demand, numberOf, tooLong, endsEarly, reservedId, wrongBlock, blockTooSmall}
 use Rattle.codec.specs.Technology.{Technology, technologyId, technologies, bit, known}
 use Rattle.codec.specs.Layout.{Layout, number, octets, counted, value, least, fault}
 use Rattle.codec.specs.Blocks.{Column, capabilities, configurations, cell, layouts}
-use Rattle.codec.specs.Table.{messageOf, Row}
+use Rattle.codec.specs.Table.{messageLimit, assigned, messageOf, Row}
 use Rattle.codec.specs.Records.{StructOf, make, blank}
 use Rattle.codec.specs.Message.{Walked, walk, idOf, setOf, blockAt}
-use Rattle.codec.specs.Listing.{noBlock, nthFrom}
+use Rattle.codec.specs.Listing.{noBlock, nthFrom, nthBlock}
 use Rattle.codec.specs.declared.records.Record.{Record}
 use Rattle.codec.specs.declared.records.Block.{Block}
 
@@ -28,6 +28,15 @@ Roomy [] at s = at ≤ length s
 Roomy (number x w t ∷ L) at s = Roomy L (at + w) s
 Roomy (octets x n t ∷ L) at s = Roomy L (at + n) s
 Roomy (counted y x t c ∷ L) at s = (getD s at 0 ≤ c) × Roomy L (at + 1 + getD s at 0) s
+
+-- ---- the head of a message, before its version
+
+abbrev pub headFault : List ℕ → Checked (Unit {0})
+headFault m =
+    demand (leb (length m) messageLimit) tooLong
+    (demand (leb 2 (length m)) endsEarly
+    (demand (assigned (idOf m)) reservedId
+    (accept tt)))
 
 -- ---- one block
 
@@ -137,3 +146,8 @@ pub record Passes (m : List ℕ) (left at : ℕ) : Type 0 where
 pub record NthPlace (m : List ℕ) (left at n r : ℕ) : Type 0 where
   pub heads : Heads m r
   pub lists : (p : Passes m left at) → listedAt m r ≡ nthFrom (p .walked .blocks) at n
+
+-- the place of the n-th block of a message, 0 for none
+pub record Lists (m : List ℕ) (n r : ℕ) : Type 0 where
+  pub heads : Heads m r
+  pub lists : listedAt m r ≡ nthBlock m n

@@ -1,50 +1,35 @@
-use native.Mathlib.Omega.{arith}
-use mathlib.Core.Path.{refl}
-use Prim.Native.Nat.{_≤_}
-use lib.ListN.{length}
-use borrow.Author.Tests.{ne-eqb}
-use Rattle.codec.specs.Table.{row, blockCount}
-use Rattle.codec.specs.Message.{idOf, setOf, blocksAt}
-use Rattle.codec.specs.Inner.Places.{Passes}
-use Rattle.codec.proofs.Listed.{lists-none, lists-refused, set-room, passes-all, lists-message}
+use Rattle.codec.proofs.MessageCases.{head-stop, Opened, opened}
+use Rattle.codec.proofs.Rows.{other-alone}
+use Rattle.codec.proofs.Listed.{lists-alone, lists-refused}
+use Rattle.codec.specs.Inner.Places.{numberIn}
+use mathlib.Core.Path.{ap, _∙_}
 use borrow.Author.Needs.{needs}
 use Rattle.codec.proofs.listing.place_of.Statement.{statement}
 use Rattle.codec.proofs.listing.place_of.Tie as tie
 
--- a message that is not refused has its set
-four : (c : tie.Else1) → 4 ≤ length (c .before .before .before .before .args .m .now)
-four c = set-room _ _ (c .before .message-fault .ensures .number) (c .if1 .left)
-
--- and its blocks are whole
-blocks : (c : tie.Else1) → let m = c .before .before .before .before .args .m .now in Passes m (blockCount (row (idOf m) .column) (setOf m)) (blocksAt (row (idOf m) .times))
-blocks c = passes-all _ _ (c .before .message-fault .ensures .number) (c .if1 .left)
+head : (c : tie.Else1) → Opened (c .before .before .before .args .m .now)
+head c = opened _ (c .before .head-fault .ensures) (c .if1 .left)
 
 returns : tie.Need-returns
-returns c = (λ h. absurd (h refl), lists-refused _ _ (c .before .message-fault .ensures .number) _ (c .if1 .taken))
+returns c = lists-refused _ _ (head-stop _ (c .before .head-fault .ensures) (c .if1 .taken)) _ (c .if1 .taken)
 
 shared-slice-read-match : tie.Need-shared-slice-read-match
-shared-slice-read-match c = omega (arith, four (c .before))
+shared-slice-read-match c = head (c .before) .two
 
-u16-at-requires : tie.Need-u16-at-requires
-u16-at-requires c κs = omega (arith, four (c .before .before .before))
+response-fault-requires : tie.Need-response-fault-requires
+response-fault-requires c κs = let h = head (c .before .before .before) in (h .two, h .limit, c .before .match .keys1, search needs)
 
-nth-place-requires : tie.Need-nth-place-requires
-nth-place-requires c κs = (rw (c .u16-at .ensures) (rw (c .before .before .match .keys1) at (blocks (c .before .before .before .before))), λ e. omega arith)
+place-by-requires : tie.Need-place-by-requires
+place-by-requires c κs = (c .response-fault .ensures .number ∙ ap numberIn (head (c .before .before .before .before) .rest), rw (c .before .before .match .keys1), rw (c .before .before .match .keys1))
 
-u16-at-requires-2 : tie.Need-u16-at-requires-2
-u16-at-requires-2 c κs = omega (arith, four (c .before .before .before))
+configuration-fault-requires : tie.Need-configuration-fault-requires
+configuration-fault-requires c κs = let h = head (c .before .before .before) in (h .two, h .limit, c .before .match .keys2, search needs)
 
-nth-place-requires-2 : tie.Need-nth-place-requires-2
-nth-place-requires-2 c κs = (rw (c .u16-at2 .ensures) (rw (c .before .before .match .keys2) at (blocks (c .before .before .before .before))), λ e. omega arith)
-
-returns-2 : tie.Need-returns-2
-returns-2 c = lists-message _ _ (c .before .before .before .before .before .before .message-fault .ensures .number) (c .before .before .before .before .before .if1 .left) _ _ (rw (c .before .before .before .match .keys1, ← c .before .u16-at .ensures) (c .nth-place .ensures))
-
-returns-3 : tie.Need-returns-3
-returns-3 c = lists-message _ _ (c .before .before .before .before .before .before .message-fault .ensures .number) (c .before .before .before .before .before .if1 .left) _ _ (rw (c .before .before .before .match .keys2, ← c .before .u16-at2 .ensures) (c .nth-place2 .ensures))
+place-by-requires-2 : tie.Need-place-by-requires-2
+place-by-requires-2 c κs = (c .configuration-fault .ensures .number ∙ ap numberIn (head (c .before .before .before .before) .rest), rw (c .before .before .match .keys2), rw (c .before .before .match .keys2))
 
 returns-4 : tie.Need-returns-4
-returns-4 c = lists-message _ _ (c .before .before .before .message-fault .ensures .number) (c .before .before .if1 .left) _ _ (lists-none _ _ _ _ (rw (ne-eqb _ 1 (c .match .rest .0 .1), ne-eqb _ 2 (c .match .rest .1))))
+returns-4 c = lists-alone _ (other-alone _ (c .match .rest .0 .1) (c .match .rest .1)) _
 
 pub place-of-spec : {M : Type 1} → statement M
 place-of-spec =
@@ -53,10 +38,10 @@ place-of-spec =
     (search needs)
     returns
     shared-slice-read-match
-    u16-at-requires
-    nth-place-requires
-    u16-at-requires-2
-    nth-place-requires-2
-    returns-2
-    returns-3
+    response-fault-requires
+    place-by-requires
+    configuration-fault-requires
+    place-by-requires-2
+    (λ c. c .place-by .ensures)
+    (λ c. c .place-by2 .ensures)
     returns-4)
