@@ -56,8 +56,8 @@ bit-pow (suc i) (suc j) =
     let e : 2 ^ suc i / 2 ^ suc j ≡ 2 ^ i / 2 ^ j = ap (λ (k : ℕ). 2 ^ suc i / 2 ^ k) (sym (add-one j) ∙ add-comm j 1) ∙ sym (shr-shr (2 ^ suc i) 1 j) ∙ ap (λ (k : ℕ). k / 2 ^ j) h in
     rw (e, eqb·suc-suc j i) (bit-pow i j)
 
--- a set without the bit of one ID that it has, as the code makes it
-pub bit-without : (s i : ℕ) → i < 16 → bit s i ≡ true → (j : ℕ) → bit (bitXor s (1 * 2 ^ i % 65536)) j ≡ (bit s j && not (eqb j i))
+-- a number without one bit that it has, as the code makes it
+pub bit-without : (s i : ℕ) → i < 32 → bit s i ≡ true → (j : ℕ) → bit (bitXor s (1 * 2 ^ i % 4294967296)) j ≡ (bit s j && not (eqb j i))
 bit-without s i h has j =
-    let e : 1 * 2 ^ i % 65536 ≡ 2 ^ i = rw (one-mul (2 ^ i)) (mod-eq-of-lt (pow-lt {i = i} {j = 16} h)) in
+    let e : 1 * 2 ^ i % 4294967296 ≡ 2 ^ i = rw (one-mul (2 ^ i)) (mod-eq-of-lt (pow-lt {i = i} {j = 32} h)) in
     rw e (bit-xor s (2 ^ i) j ∙ rw (bit-pow i j) (by-bool (eqb j i) (λ y. rw (y, eqb-true j i y, has)) (λ n. rw n (sym (and-true (bit s j))))))

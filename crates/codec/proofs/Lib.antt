@@ -6,7 +6,6 @@ pub mod SetLaws
 pub mod Every
 pub mod Layouts
 pub mod Cells
-pub mod BlockCases
 pub mod Puts
 pub mod Fields
 pub mod Counting

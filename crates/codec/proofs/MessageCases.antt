@@ -4,17 +4,18 @@ use native.Mathlib.Omega.{arith}
 use native.Mathlib.Nat.{eq-or-lt-of-le}
 use mathlib.Core.Logic.{⊎-elim}
 use mathlib.Core.Path.{_≡_, refl, sym, ap, _∙_}
-use mathlib.Core.Bool.{Bool, true, false, _&&_}
+use mathlib.Core.Bool.{Bool, true, false}
 use mathlib.Core.List.{List, []}
-use lib.Dec.{leb, eqb, ltb}
+use lib.Dec.{leb}
 use lib.ListN.{length, getD}
 use borrow.Author.Tests.{le-leb, lt-leb, leb-true, leb-false, ne-eqb}
-use Rattle.codec.specs.Refusal.{Checked, refuse, accept, andThen, numberOf, tooLong, endsEarly, reservedId, wrongVersion, setsDiffer, leftOver}
+use Rattle.codec.specs.Refusal.{Checked, refuse, accept, andThen, numberOf, tooLong, endsEarly, reservedId, wrongVersion, setsDiffer}
 use Rattle.codec.specs.Layout.{Layout, member}
 use Rattle.codec.specs.Table.{messageLimit, assigned, readable, Row, row, blockCount, layoutsOf}
 use Rattle.codec.specs.Message.{versionOf, idOf, setOf, setsAgree, blocksAt, noId, Walked, walk, endFault, blocksFrom, afterHead, body, parse}
-use Rattle.codec.specs.Inner.Places.{numberIn, noted, setAlone, Finds, Judged}
-use Rattle.codec.proofs.Outcomes.{by-bool, no-zero}
+use Rattle.codec.specs.Inner.Places.{numberIn, headFault, noted, setAlone, Finds, FindsLeft, Judged}
+use Rattle.codec.proofs.Outcomes.{by-bool, by-number, no-zero, demanded, demand-stop}
+use Rattle.codec.proofs.WalkCases.{awaits-all}
 
 -- ---- what is judged
 
@@ -31,9 +32,9 @@ module _ {kept : Bool} {c : Checked (List (List ℕ))} {at : ℕ} {found left : 
 
 -- ---- message IDs
 
-pub six-or-seven : (id : ℕ) → 6 ≤ id → id < 8 → (row id ≡ setAlone) × (assigned id ≡ true)
+pub six-or-seven : (id : ℕ) → 6 ≤ id → id < 8 → assigned id ≡ true
 unfolding assigned member
-six-or-seven id l u = ⊎-elim (λ e. rw (← e) (refl, refl)) (λ h. let e : id ≡ 7 = omega arith in rw e (refl, refl)) (eq-or-lt-of-le l)
+six-or-seven id l u = ⊎-elim (λ e. rw (← e)) (λ h. let e : id ≡ 7 = omega arith in rw e) (eq-or-lt-of-le l)
 
 pub not-assigned : (id : ℕ) → (id ≡ 0 → ⊥) → (id ≡ 1 → ⊥) → (id ≡ 2 → ⊥) → (id ≡ 3 → ⊥) → (id ≡ 6 → ⊥) → (id ≡ 7 → ⊥) → assigned id ≡ false
 unfolding assigned member
@@ -56,37 +57,32 @@ assigned-under id e =
     absurd (omega arith))
     (λ n. omega (arith, leb-false 8 id n))
 
--- ---- the end of the message, and the blocks
+-- ---- the blocks, and the end of the message
 
-module _ (m : List ℕ) (end : ℕ) where
-  pub end-left : (eqb (versionOf m) 1 && ltb end (length m)) ≡ true → numberOf leftOver ≡ numberIn (endFault m end)
-  unfolding endFault
-  end-left t = rw t
+module _ (layouts : ℕ → Layout) (m : List ℕ) (n at : ℕ) (found : List ℕ) {f : ℕ} {left : List ℕ} (h : FindsLeft layouts m at n (setOf m) found f left) where
+  -- from the first block on
+  finds : Finds (walk layouts (setOf m) m n noId at) at found f left
+  finds = h .finds (setOf m) noId (awaits-all (setOf m))
 
-  pub end-none : (eqb (versionOf m) 1 && ltb end (length m)) ≡ false → 0 ≡ numberIn (endFault m end)
-  unfolding endFault
-  end-none t = rw t
-
-module _ (layouts : ℕ → Layout) (m : List ℕ) (n at : ℕ) (found : List ℕ) {f : ℕ} {left : List ℕ} (l : length left ≡ 5) (h : Finds (walk layouts (setOf m) m n noId at) at found f left) where
-  pub blocks-stop : (f ≡ 0 → ⊥) → Judged true (blocksFrom layouts m n at) at found f left
+  blocks-stop : (f ≡ 0 → ⊥) → Judged true (blocksFrom layouts m n at) at found f left
   unfolding blocksFrom
-  blocks-stop z = go (walk layouts (setOf m) m n noId at) h
+  blocks-stop z = go (walk layouts (setOf m) m n noId at) finds
     where
       go : (w : Checked Walked) → Finds w at found f left → Judged true (andThen w λ w. andThen (endFault m (w .end)) λ _. accept (w .blocks)) at found f left
-      go (refuse x) h = judged-refused h z l
-      go (accept w) h = absurd (z (h .0))
+      go (refuse x) e = judged-refused e z (h .size)
+      go (accept w) e = absurd (z (e .0))
 
-  pub blocks-end : {g : ℕ} → f ≡ 0 → g ≡ numberIn (endFault m (getD left 4 0)) → Judged true (blocksFrom layouts m n at) at found g left
+  blocks-end : {g : ℕ} → f ≡ 0 → g ≡ numberIn (endFault m (getD left 4 0)) → Judged true (blocksFrom layouts m n at) at found g left
   unfolding blocksFrom
-  blocks-end {g} z e = go (walk layouts (setOf m) m n noId at) h
+  blocks-end {g} z e = go (walk layouts (setOf m) m n noId at) finds
     where
       last : (w : Walked) (c : Checked (Unit {0})) → left ≡ noted (w .blocks) at found → g ≡ numberIn c → Judged true (andThen c λ _. accept (w .blocks)) at found g left
-      last w (refuse x) p e = judged-refused e (λ z. no-zero x (sym e ∙ z)) l
-      last w (accept u) p e = record { number = e; places = λ k blocks a. let q : w .blocks ≡ blocks = cc in p ∙ rw q; size = l }
+      last w (refuse x) p e = judged-refused e (λ z. no-zero x (sym e ∙ z)) (h .size)
+      last w (accept u) p e = record { number = e; places = λ k blocks a. let q : w .blocks ≡ blocks = cc in p ∙ rw q; size = h .size }
 
       go : (w : Checked Walked) → Finds w at found f left → Judged true (andThen w λ w. andThen (endFault m (w .end)) λ _. accept (w .blocks)) at found g left
-      go (refuse x) h = absurd (no-zero x (sym h ∙ z))
-      go (accept w) h = last w (endFault m (w .end)) (h .1) (e ∙ rw (h .2))
+      go (refuse x) k = absurd (no-zero x (sym k ∙ z))
+      go (accept w) k = last w (endFault m (w .end)) (k .1) (e ∙ rw (k .2))
 
 -- ---- the version, and what follows the head
 
@@ -109,9 +105,17 @@ module _ (m : List ℕ) where
       unfolding afterHead
       body-sets s = rw (← body-is, le-leb (blocksAt (R .times)) (length m) l, s)
 
-      pub body-blocks : setsAgree (R .times) m ≡ true → blocksFrom (layoutsOf (R .column)) m (blockCount (R .column) (setOf m)) (blocksAt (R .times)) ≡ body m
+      body-blocks : setsAgree (R .times) m ≡ true → blocksFrom (layoutsOf (R .column)) m (blockCount (R .column) (setOf m)) (blocksAt (R .times)) ≡ body m
       unfolding afterHead
       body-blocks s = rw (← body-is, le-leb (blocksAt (R .times)) (length m) l, s)
+
+      -- after the sets come the blocks, and then the end
+      module _ (s : setsAgree (R .times) m ≡ true) {found : List ℕ} {f : ℕ} {left : List ℕ} (h : FindsLeft (layoutsOf (R .column)) m (blocksAt (R .times)) (blockCount (R .column) (setOf m)) (setOf m) found f left) where
+        pub body-stop : (f ≡ 0 → ⊥) → Judged true (body m) (blocksAt (R .times)) found f left
+        body-stop z = judged-as (blocks-stop _ m _ _ found h z) (body-blocks s)
+
+        pub body-end : {g : ℕ} → f ≡ 0 → g ≡ numberIn (endFault m (getD left 4 0)) → Judged true (body m) (blocksAt (R .times)) found g left
+        body-end z e = judged-as (blocks-end _ m _ _ found h z e) (body-blocks s)
 
   -- after a set alone comes the end
   pub set-end : readable (versionOf m) (idOf m) ≡ true → row (idOf m) ≡ setAlone → 4 ≤ length m → numberIn (endFault m 4) ≡ numberIn (body m)
@@ -122,21 +126,27 @@ module _ (m : List ℕ) where
       go (refuse x) = refl
       go (accept u) = refl
 
-  -- ---- the whole message
+-- ---- the head of a message, and then its body
 
-  pub parse-long : messageLimit < length m → numberOf tooLong ≡ numberIn (parse m)
-  unfolding parse
-  parse-long l = rw (lt-leb _ _ l)
+pub head-stop : (m : List ℕ) {f : ℕ} → f ≡ numberIn (headFault m) → (f ≡ 0 → ⊥) → f ≡ numberIn (parse m)
+unfolding parse
+head-stop m e h =
+    demand-stop (leb (length m) messageLimit) tooLong _ _
+    (demand-stop (leb 2 (length m)) endsEarly _ _
+    (demand-stop (assigned (idOf m)) reservedId _ _ (λ z. absurd (h z))))
+    e
 
-  pub parse-short : length m < 2 → numberOf endsEarly ≡ numberIn (parse m)
-  unfolding parse
-  parse-short l = rw (le-leb (length m) messageLimit (omega arith), lt-leb _ _ l)
+-- what a head without a fault says
+pub record Opened (m : List ℕ) : Type 0 where
+  pub limit : length m ≤ messageLimit
+  pub two : 2 ≤ length m
+  pub rest : body m ≡ parse m
 
-  module _ (u : length m ≤ messageLimit) (l : 2 ≤ length m) where
-    pub parse-reserved : assigned (idOf m) ≡ false → numberOf reservedId ≡ numberIn (parse m)
-    unfolding parse
-    parse-reserved e = rw (le-leb (length m) messageLimit u, le-leb 2 (length m) l, e)
-
-    pub parse-body : assigned (idOf m) ≡ true → body m ≡ parse m
-    unfolding parse
-    parse-body e = rw (le-leb (length m) messageLimit u, le-leb 2 (length m) l, e)
+pub opened : (m : List ℕ) {f : ℕ} → f ≡ numberIn (headFault m) → f ≡ 0 → Opened m
+unfolding parse
+opened m e z =
+    by-number (headFault m) (sym e ∙ z) λ u a.
+    demanded (leb (length m) messageLimit) tooLong _ u a λ p b.
+    demanded (leb 2 (length m)) endsEarly _ u b λ q d.
+    demanded (assigned (idOf m)) reservedId _ u d λ r k.
+    record { limit = leb-true _ _ p; two = leb-true _ _ q; rest = rw (p, q, r) }

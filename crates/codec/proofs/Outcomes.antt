@@ -50,3 +50,8 @@ module _ {A C : Type 0} where
 pub chained : {A B C : Type 0} (c : Checked A) (rest : A → Checked B) (b : B) → andThen c rest ≡ accept b → ((a : A) → c ≡ accept a → rest a ≡ accept b → C) → C
 chained (refuse x) rest b e k = let z : _≡_ {A = ℕ} 0 1 = cc in absurd (omega arith)
 chained (accept a) rest b e k = k a refl e
+
+-- the number of a test that fails stays, whatever follows
+pub demand-stop : {A B : Type 0} (t : Bool) (x : Refusal) (c : Checked A) (d : Checked B) {f : ℕ} → (f ≡ numberIn c → f ≡ numberIn d) → f ≡ numberIn (demand t x c) → f ≡ numberIn (demand t x d)
+demand-stop true x c d k e = k e
+demand-stop false x c d k e = e

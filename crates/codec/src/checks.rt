@@ -1,10 +1,7 @@
 // The order of checks: the number of a message's first fault, and the places of its blocks where there is none.
-use crate::message::CAPABILITY_REQUEST;
 use crate::message::CAPABILITY_RESPONSE;
 use crate::message::CONFIGURATION;
-use crate::message::CONFIGURATION_RESPONSE;
-use crate::message::STOP;
-use crate::message::STOP_RESPONSE;
+use crate::message::assigned;
 use crate::octets::u16_at;
 use crate::octets::wide;
 use crate::refusal::ENDS_EARLY;
@@ -13,23 +10,42 @@ use crate::refusal::RESERVED_ID;
 use crate::refusal::SETS_DIFFER;
 use crate::refusal::TOO_LONG;
 use crate::refusal::WRONG_VERSION;
-use crate::walk::walk;
+use crate::walk::walk_capabilities;
+use crate::walk::walk_configurations;
 ghost use mathlib.Core.Path.{_≡_};
 ghost use mathlib.Core.Bool.{true};
 ghost use Prim.Native.Nat.{_≤_};
-ghost use lib.Count.{ones};
 ghost use lib.ListN.{length};
 ghost use Rattle.codec.specs.Table.{messageLimit, readable, row};
-ghost use Rattle.codec.specs.Message.{idOf, setOf, endFault, blocksFrom, body, parse, blocksAt};
-ghost use Rattle.codec.specs.Inner.Places.{numberIn, layoutsBy, setAlone, carriesBlocks, Judged};
+ghost use Rattle.codec.specs.Message.{idOf, endFault, body, parse, blocksAt};
+ghost use Rattle.codec.specs.Inner.Places.{numberIn, headFault, setAlone, carriesBlocks, Judged};
 
 // A message has at most so many octets.
 pub const MESSAGE_LIMIT: usize = 256;
 
+// The first fault in the head of a message, before its version, 0 for none.
+pub(crate) fn head_fault(m: &[u8]) -> u8
+    ensures { λ f. ⌜ f ≡ numberIn (headFault (now (m .entry))) ⌝ }
+{
+    if MESSAGE_LIMIT < m.len() {
+        return TOO_LONG;
+    }
+    if m.len() < 2 {
+        return ENDS_EARLY;
+    }
+    if !assigned(m[1]) {
+        return RESERVED_ID;
+    }
+    0
+}
+
 fn readable(version: u8, id: u8) -> bool
     ensures { λ r. ⌜ r ≡ readable version id ⌝ }
 {
-    (version == 1) | ((1 < version) & (id < 2))
+    if version == 1 {
+        return true;
+    }
+    (1 < version) & (id < 2)
 }
 
 // The rule for the end of the message, from the place after its known part.
@@ -37,7 +53,10 @@ fn end_fault(m: &[u8], end: usize) -> u8
     requires { ⌜ 4 ≤ length (now m) ⌝ }
     ensures { λ r. ⌜ r ≡ numberIn (endFault (now (m .entry)) end) ⌝ }
 {
-    if (m[0] == 1) & (end < m.len()) {
+    if m.len() <= end {
+        return 0;
+    }
+    if m[0] == 1 {
         return LEFT_OVER;
     }
     0
@@ -57,22 +76,8 @@ fn set_fault(m: &[u8]) -> u8
     end_fault(m, 4)
 }
 
-// The first fault from the blocks on; for none it is 0, and `found` has the places of the blocks.
-fn blocks_fault(m: &[u8], at: usize, found: &mut [u16; 5]) -> u8
-    requires { ⌜ (4 ≤ length (now m)) × (length (now m) ≤ messageLimit) × (at ≤ length (now m)) × (length (now found) ≡ 5) ⌝ }
-    ensures { λ f. ⌜ Judged true (blocksFrom (layoutsBy (idOf (now (m .entry)))) (now (m .entry)) (ones (setOf (now (m .entry)))) at) at (now (found .entry)) f (now (found .exit)) ⌝ }
-{
-    let set = u16_at(m, 2);
-    let view = m;
-    let fault = walk(&view, at, u16::count_ones(set), set, found);
-    if fault != 0 {
-        return fault;
-    }
-    end_fault(m, wide(found[4]))
-}
-
 // The first fault from the version on of a Capability Response.
-fn response_fault(m: &[u8], found: &mut [u16; 5]) -> u8
+pub(crate) fn response_fault(m: &[u8], found: &mut [u16; 5]) -> u8
     requires { ⌜ (2 ≤ length (now m)) × (length (now m) ≤ messageLimit) × (idOf (now m) ≡ 1) × (length (now found) ≡ 5) ⌝ }
     ensures { λ f. ⌜ Judged true (body (now (m .entry))) 4 (now (found .entry)) f (now (found .exit)) ⌝ }
 {
@@ -82,11 +87,17 @@ fn response_fault(m: &[u8], found: &mut [u16; 5]) -> u8
     if m.len() < 4 {
         return ENDS_EARLY;
     }
-    blocks_fault(m, 4, found)
+    let set = u16_at(m, 2);
+    let view = m;
+    let fault = walk_capabilities(&view, 4, u16::count_ones(set), set as u32, found);
+    if fault != 0 {
+        return fault;
+    }
+    end_fault(m, wide(found[4]))
 }
 
 // The first fault from the version on of a Configuration.
-fn configuration_fault(m: &[u8], found: &mut [u16; 5]) -> u8
+pub(crate) fn configuration_fault(m: &[u8], found: &mut [u16; 5]) -> u8
     requires { ⌜ (2 ≤ length (now m)) × (length (now m) ≤ messageLimit) × (idOf (now m) ≡ 2) × (length (now found) ≡ 5) ⌝ }
     ensures { λ f. ⌜ Judged true (body (now (m .entry))) 6 (now (found .entry)) f (now (found .exit)) ⌝ }
 {
@@ -96,10 +107,16 @@ fn configuration_fault(m: &[u8], found: &mut [u16; 5]) -> u8
     if m.len() < 6 {
         return ENDS_EARLY;
     }
-    if u16_at(m, 2) != u16_at(m, 4) {
+    let set = u16_at(m, 2);
+    if set != u16_at(m, 4) {
         return SETS_DIFFER;
     }
-    blocks_fault(m, 6, found)
+    let view = m;
+    let fault = walk_configurations(&view, 6, u16::count_ones(set), set as u32, found);
+    if fault != 0 {
+        return fault;
+    }
+    end_fault(m, wide(found[4]))
 }
 
 // The first fault of a message; for none it is 0, and `found` has the places of the blocks of message 1 or 2.
@@ -107,16 +124,13 @@ pub(crate) fn message_fault(m: &[u8], found: &mut [u16; 5]) -> u8
     requires { ⌜ length (now found) ≡ 5 ⌝ }
     ensures { λ f. ⌜ Judged (carriesBlocks (row (idOf (now (m .entry))) .column)) (parse (now (m .entry))) (blocksAt (row (idOf (now (m .entry))) .times)) (now (found .entry)) f (now (found .exit)) ⌝ }
 {
-    if MESSAGE_LIMIT < m.len() {
-        return TOO_LONG;
-    }
-    if m.len() < 2 {
-        return ENDS_EARLY;
+    let fault = head_fault(m);
+    if fault != 0 {
+        return fault;
     }
     match m[1] {
-        CAPABILITY_REQUEST | CONFIGURATION_RESPONSE | STOP | STOP_RESPONSE => set_fault(m),
         CAPABILITY_RESPONSE => response_fault(m, found),
         CONFIGURATION => configuration_fault(m, found),
-        4..=5 | 8..=255 => RESERVED_ID,
+        _ => set_fault(m),
     }
 }

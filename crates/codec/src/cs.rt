@@ -5,6 +5,8 @@ use crate::octets::inside;
 use crate::octets::put;
 use crate::octets::put_address;
 use crate::refusal::NOT_ALLOWED;
+use crate::sizes::block_octets;
+use crate::sizes::size_fault;
 use crate::technology::CS;
 ghost use mathlib.Core.Path.{_≡_};
 ghost use mathlib.Core.Bool.{cond};
@@ -15,7 +17,7 @@ ghost use Rattle.codec.specs.Blocks.{csCapability, csConfiguration};
 ghost use Rattle.codec.specs.Records.{toCsCapability, toCsConfiguration, ofCsCapability, ofCsConfiguration};
 ghost use Rattle.codec.specs.Valid.{validFields};
 ghost use Rattle.codec.specs.Inner.Puts.{Put, blockIf};
-ghost use Rattle.codec.specs.Inner.Places.{numberIn, Roomy};
+ghost use Rattle.codec.specs.Inner.Places.{numberIn, Roomy, layoutFault};
 
 #[repr(C)]
 pub struct CsCapability {
@@ -29,6 +31,14 @@ pub struct CsConfiguration {
     pub address: [u8; 6],
 }
 
+// The first fault of the block at a place of a message: its size.
+pub(crate) fn capability_fault(m: &[u8], at: usize) -> u8
+    requires { ⌜ at + 2 ≤ length (now m) ⌝ }
+    ensures { λ r. ⌜ r ≡ numberIn (layoutFault csCapability (now (m .entry)) at) ⌝ }
+{
+    size_fault(m, at, 9)
+}
+
 pub(crate) fn capability(b: &[u8]) -> CsCapability
     requires { ⌜ Roomy csCapability 2 (now b) ⌝ }
     ensures { λ r. ⌜ r ≡ toCsCapability (value csCapability 2 (now (b .entry))) ⌝ }
@@ -40,7 +50,7 @@ pub(crate) fn capability(b: &[u8]) -> CsCapability
     }
 }
 
-pub(crate) fn configuration_fault(b: &[u8]) -> u8
+fn configuration_fields_fault(b: &[u8]) -> u8
     requires { ⌜ 9 ≤ length (now b) ⌝ }
     ensures { λ r. ⌜ r ≡ numberIn (fault csConfiguration 2 (now (b .entry))) ⌝ }
 {
@@ -48,6 +58,18 @@ pub(crate) fn configuration_fault(b: &[u8]) -> u8
         return NOT_ALLOWED;
     }
     0
+}
+
+// The first fault of the block at a place of a message: its size, and then its fields.
+pub(crate) fn configuration_fault(m: &[u8], at: usize) -> u8
+    requires { ⌜ at + 2 ≤ length (now m) ⌝ }
+    ensures { λ r. ⌜ r ≡ numberIn (layoutFault csConfiguration (now (m .entry)) at) ⌝ }
+{
+    let fault = size_fault(m, at, 9);
+    if fault != 0 {
+        return fault;
+    }
+    configuration_fields_fault(block_octets(m, at))
 }
 
 pub(crate) fn configuration(b: &[u8]) -> CsConfiguration

@@ -12,6 +12,7 @@ mod reader;
 mod records;
 pub mod refusal;
 mod rssi;
+mod sizes;
 pub mod technology;
 mod uwb;
 mod validity;

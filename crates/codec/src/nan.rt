@@ -7,6 +7,8 @@ use crate::octets::put_name;
 use crate::octets::zero_from;
 use crate::refusal::BLOCK_TOO_SMALL;
 use crate::refusal::NOT_ALLOWED;
+use crate::sizes::block_octets;
+use crate::sizes::size_fault;
 use crate::technology::NAN;
 ghost use mathlib.Core.Path.{_≡_};
 ghost use mathlib.Core.Bool.{cond};
@@ -17,7 +19,7 @@ ghost use Rattle.codec.specs.Blocks.{nanCapability, nanConfiguration};
 ghost use Rattle.codec.specs.Records.{toNanCapability, toNanConfiguration, ofNanCapability, ofNanConfiguration};
 ghost use Rattle.codec.specs.Valid.{validFields};
 ghost use Rattle.codec.specs.Inner.Puts.{Put, blockIf};
-ghost use Rattle.codec.specs.Inner.Places.{numberIn, Roomy};
+ghost use Rattle.codec.specs.Inner.Places.{numberIn, Roomy, layoutFault};
 
 #[repr(C)]
 pub struct NanCapability {
@@ -35,7 +37,7 @@ pub struct NanConfiguration {
     pub periodic: u8,
 }
 
-pub(crate) fn capability_fault(b: &[u8]) -> u8
+fn capability_fields_fault(b: &[u8]) -> u8
     requires { ⌜ 6 ≤ length (now b) ⌝ }
     ensures { λ r. ⌜ r ≡ numberIn (fault nanCapability 2 (now (b .entry))) ⌝ }
 {
@@ -43,6 +45,18 @@ pub(crate) fn capability_fault(b: &[u8]) -> u8
         return NOT_ALLOWED;
     }
     0
+}
+
+// The first fault of the block at a place of a message: its size, and then its fields.
+pub(crate) fn capability_fault(m: &[u8], at: usize) -> u8
+    requires { ⌜ at + 2 ≤ length (now m) ⌝ }
+    ensures { λ r. ⌜ r ≡ numberIn (layoutFault nanCapability (now (m .entry)) at) ⌝ }
+{
+    let fault = size_fault(m, at, 6);
+    if fault != 0 {
+        return fault;
+    }
+    capability_fields_fault(block_octets(m, at))
 }
 
 pub(crate) fn capability(b: &[u8]) -> NanCapability
@@ -57,7 +71,7 @@ pub(crate) fn capability(b: &[u8]) -> NanCapability
     }
 }
 
-pub(crate) fn configuration_fault(b: &[u8]) -> u8
+fn configuration_fields_fault(b: &[u8]) -> u8
     requires { ⌜ 3 ≤ length (now b) ⌝ }
     ensures { λ r. ⌜ r ≡ numberIn (fault nanConfiguration 2 (now (b .entry))) ⌝ }
 {
@@ -76,6 +90,18 @@ pub(crate) fn configuration_fault(b: &[u8]) -> u8
         return NOT_ALLOWED;
     }
     0
+}
+
+// The first fault of the block at a place of a message: its size, and then its fields.
+pub(crate) fn configuration_fault(m: &[u8], at: usize) -> u8
+    requires { ⌜ at + 2 ≤ length (now m) ⌝ }
+    ensures { λ r. ⌜ r ≡ numberIn (layoutFault nanConfiguration (now (m .entry)) at) ⌝ }
+{
+    let fault = size_fault(m, at, 3);
+    if fault != 0 {
+        return fault;
+    }
+    configuration_fields_fault(block_octets(m, at))
 }
 
 pub(crate) fn configuration(b: &[u8]) -> NanConfiguration

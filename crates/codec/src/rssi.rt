@@ -3,6 +3,7 @@ use crate::octets::address_at;
 use crate::octets::all_zero;
 use crate::octets::put;
 use crate::octets::put_address;
+use crate::sizes::size_fault;
 use crate::technology::RSSI;
 ghost use mathlib.Core.Path.{_≡_};
 ghost use mathlib.Core.Bool.{cond};
@@ -13,11 +14,19 @@ ghost use Rattle.codec.specs.Blocks.{rssiBlock};
 ghost use Rattle.codec.specs.Records.{toRssi, ofRssi};
 ghost use Rattle.codec.specs.Valid.{validFields};
 ghost use Rattle.codec.specs.Inner.Puts.{Put, blockIf};
-ghost use Rattle.codec.specs.Inner.Places.{Roomy};
+ghost use Rattle.codec.specs.Inner.Places.{numberIn, Roomy, layoutFault};
 
 #[repr(C)]
 pub struct Rssi {
     pub address: [u8; 6],
+}
+
+// The first fault of the block at a place of a message: its size.
+pub(crate) fn block_fault(m: &[u8], at: usize) -> u8
+    requires { ⌜ at + 2 ≤ length (now m) ⌝ }
+    ensures { λ r. ⌜ r ≡ numberIn (layoutFault rssiBlock (now (m .entry)) at) ⌝ }
+{
+    size_fault(m, at, 8)
 }
 
 pub(crate) fn block(b: &[u8]) -> Rssi

@@ -32,12 +32,22 @@ pub fn has(set: u16, id: u8) -> bool
     false
 }
 
-// The set without the bit of an ID that it has.
-pub(crate) fn without(set: u16, id: u8) -> u16
-    requires { ⌜ bit set id ≡ true ⌝ }
-    ensures { λ r. ⌜ ((j : ℕ) → bit r j ≡ (bit set j && not (eqb j id))) ⌝ }
+// Whether a number has bit n.
+pub(crate) fn has_bit(bits: u32, n: u8) -> bool
+    ensures { λ r. ⌜ r ≡ bit bits n ⌝ }
 {
-    set ^ (1 << id)
+    if n < 32 {
+        return (bits >> n) % 2 == 1;
+    }
+    false
+}
+
+// A number without bit n, which it has.
+pub(crate) fn without(bits: u32, n: u8) -> u32
+    requires { ⌜ bit bits n ≡ true ⌝ }
+    ensures { λ r. ⌜ ((j : ℕ) → bit r j ≡ (bit bits j && not (eqb j n))) ⌝ }
+{
+    bits ^ (1 << n)
 }
 
 // A set, or none.

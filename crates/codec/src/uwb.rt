@@ -13,6 +13,8 @@ use crate::octets::u32_at;
 use crate::octets::zero_from;
 use crate::refusal::BLOCK_TOO_SMALL;
 use crate::refusal::NOT_ALLOWED;
+use crate::sizes::block_octets;
+use crate::sizes::size_fault;
 use crate::technology::UWB;
 ghost use mathlib.Core.Path.{_≡_};
 ghost use mathlib.Core.Bool.{cond};
@@ -20,11 +22,11 @@ ghost use Prim.Native.Nat.{_+_, _≤_};
 ghost use lib.ListN.{length, drop};
 ghost use Rattle.codec.specs.Octets.{allZero};
 ghost use Rattle.codec.specs.Layout.{spelled, inside, test, zeroed, write, value, fault};
-ghost use Rattle.codec.specs.Blocks.{interval, keyLength, country, country, uwbCapability, uwbConfiguration, uwbAfterKey};
+ghost use Rattle.codec.specs.Blocks.{interval, keyLength, country, uwbCapability, uwbConfiguration, uwbAfterKey};
 ghost use Rattle.codec.specs.Records.{toUwbCapability, toUwbConfiguration, ofUwbCapability, ofUwbConfiguration};
 ghost use Rattle.codec.specs.Valid.{validFields};
 ghost use Rattle.codec.specs.Inner.Puts.{Put, blockIf, setOctets, beforeKey, afterKey};
-ghost use Rattle.codec.specs.Inner.Places.{numberIn, Roomy};
+ghost use Rattle.codec.specs.Inner.Places.{numberIn, Roomy, layoutFault};
 
 #[repr(C)]
 pub struct Channel(pub u8);
@@ -93,7 +95,7 @@ fn allowed_country(pair: [u8; 2]) -> bool
     inside(65, 90, pair[0]) & inside(65, 90, pair[1])
 }
 
-pub(crate) fn capability_fault(b: &[u8]) -> u8
+fn capability_fields_fault(b: &[u8]) -> u8
     requires { ⌜ 20 ≤ length (now b) ⌝ }
     ensures { λ r. ⌜ r ≡ numberIn (fault uwbCapability 2 (now (b .entry))) ⌝ }
 {
@@ -104,6 +106,18 @@ pub(crate) fn capability_fault(b: &[u8]) -> u8
         return NOT_ALLOWED;
     }
     0
+}
+
+// The first fault of the block at a place of a message: its size, and then its fields.
+pub(crate) fn capability_fault(m: &[u8], at: usize) -> u8
+    requires { ⌜ at + 2 ≤ length (now m) ⌝ }
+    ensures { λ r. ⌜ r ≡ numberIn (layoutFault uwbCapability (now (m .entry)) at) ⌝ }
+{
+    let fault = size_fault(m, at, 20);
+    if fault != 0 {
+        return fault;
+    }
+    capability_fields_fault(block_octets(m, at))
 }
 
 pub(crate) fn capability(b: &[u8]) -> UwbCapability
@@ -141,7 +155,7 @@ fn after_key_fault(b: &[u8], at: usize) -> u8
     0
 }
 
-pub(crate) fn configuration_fault(b: &[u8]) -> u8
+fn configuration_fields_fault(b: &[u8]) -> u8
     requires { ⌜ 15 ≤ length (now b) ⌝ }
     ensures { λ r. ⌜ r ≡ numberIn (fault uwbConfiguration 2 (now (b .entry))) ⌝ }
 {
@@ -159,6 +173,18 @@ pub(crate) fn configuration_fault(b: &[u8]) -> u8
         return BLOCK_TOO_SMALL;
     }
     after_key_fault(b, country)
+}
+
+// The first fault of the block at a place of a message: its size, and then its fields.
+pub(crate) fn configuration_fault(m: &[u8], at: usize) -> u8
+    requires { ⌜ at + 2 ≤ length (now m) ⌝ }
+    ensures { λ r. ⌜ r ≡ numberIn (layoutFault uwbConfiguration (now (m .entry)) at) ⌝ }
+{
+    let fault = size_fault(m, at, 15);
+    if fault != 0 {
+        return fault;
+    }
+    configuration_fields_fault(block_octets(m, at))
 }
 
 pub(crate) fn configuration(b: &[u8]) -> UwbConfiguration

@@ -13,19 +13,9 @@ use crate::technology::has;
 use crate::uwb;
 ghost use mathlib.Core.Path.{_≡_};
 ghost use Rattle.codec.specs.Blocks.{capabilities, configurations};
-ghost use Rattle.codec.specs.Table.{assigned};
 ghost use Rattle.codec.specs.Records.{response, only};
 ghost use Rattle.codec.specs.Valid.{validColumn, valid};
 ghost use Rattle.codec.specs.Inner.Puts.{restZero};
-
-pub(crate) fn assigned(id: u8) -> bool
-    ensures { λ r. ⌜ r ≡ assigned id ⌝ }
-{
-    match id {
-        0..=3 | 6..=7 => true,
-        4..=5 | 8..=255 => false,
-    }
-}
 
 // Whether the fields of the technologies in a set are allowed, and all others zero.
 pub(crate) fn valid_capability(set: u16, c: Capability) -> bool

@@ -2,6 +2,7 @@
 use crate::cs;
 use crate::message::CAPABILITY_RESPONSE;
 use crate::message::CONFIGURATION;
+use crate::message::assigned;
 use crate::nan;
 use crate::octets::put;
 use crate::octets::put_u16;
@@ -21,7 +22,6 @@ use crate::technology::SET_LIMIT;
 use crate::technology::UWB;
 use crate::technology::has;
 use crate::uwb;
-use crate::validity::assigned;
 use crate::validity::is_zero_configuration;
 use crate::validity::rest_zero;
 use crate::validity::valid_capability;

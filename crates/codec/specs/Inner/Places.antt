@@ -1,19 +1,19 @@
 -- What the inner functions of the reader and of the listing keep: the places of the known technologies' blocks, and what reading a block without a fault rests on.
-use Prim.Native.Nat.{ℕ, _+_, _-_, _≤_}
+use Prim.Native.Nat.{ℕ, _+_, _≤_}
 use mathlib.Core.Path.{_≡_}
 use mathlib.Core.List.{List, [], _∷_}
 use mathlib.Core.Option.{Option, none, some}
 use mathlib.Core.Bool.{Bool, true, false, _&&_, not, cond}
 use lib.Dec.{leb, ltb, eqb}
 use lib.ListN.{length, getD, set, drop, replicate}
-use Rattle.codec.specs.Refusal.{Checked, refuse, accept, demand, andThen, numberOf, endsEarly, wrongBlock, blockTooSmall}
+use Rattle.codec.specs.Refusal.{Checked, refuse, accept, demand, numberOf, tooLong, endsEarly, reservedId, wrongBlock, blockTooSmall}
 use Rattle.codec.specs.Technology.{Technology, uwb, cs, nan, rssi, technologyId, technologies, bit, known}
 use Rattle.codec.specs.Layout.{Layout, number, octets, counted, Values, zeroes, value, least, fault}
-use Rattle.codec.specs.Blocks.{Column, capabilities, configurations, cell, layouts}
-use Rattle.codec.specs.Table.{messageOf, Row}
+use Rattle.codec.specs.Blocks.{Column, capabilities, configurations, cell}
+use Rattle.codec.specs.Table.{messageLimit, assigned, messageOf, Row}
 use Rattle.codec.specs.Records.{StructOf, make, blank, accepted, answer}
 use Rattle.codec.specs.Message.{Walked, walk, idOf, setOf, blockAt, parse, reading}
-use Rattle.codec.specs.Listing.{nthFrom}
+use Rattle.codec.specs.Listing.{noBlock, nthFrom, nthBlock}
 use Rattle.codec.specs.declared.records.Configuration.{Configuration}
 use Rattle.codec.specs.declared.records.Record.{Record}
 use Rattle.codec.specs.declared.records.Heard.{Heard}
@@ -38,30 +38,39 @@ Roomy (number x w t ∷ L) at s = Roomy L (at + w) s
 Roomy (octets x n t ∷ L) at s = Roomy L (at + n) s
 Roomy (counted y x t c ∷ L) at s = (getD s at 0 ≤ c) × Roomy L (at + 1 + getD s at 0) s
 
+-- ---- the head of a message, before its version
+
+abbrev pub headFault : List ℕ → Checked (Unit {0})
+headFault m =
+    demand (leb (length m) messageLimit) tooLong
+    (demand (leb 2 (length m)) endsEarly
+    (demand (assigned (idOf m)) reservedId
+    (accept tt)))
+
 -- ---- one block
 
--- its size, with so many octets left in the message
-abbrev pub sizeFault : ℕ → ℕ → ℕ → Checked (Unit {0})
-sizeFault least size left = demand (leb least size) blockTooSmall (demand (leb size left) endsEarly (accept tt))
+-- its head: both octets there, and the ID is one in the set that has not come yet
+abbrev pub awaitedFault : ℕ → List ℕ → ℕ → Checked (Unit {0})
+awaitedFault awaited m at = demand (leb (at + 2) (length m)) endsEarly (demand (bit awaited (getD m at 0)) wrongBlock (accept tt))
 
-module _ (layouts : ℕ → Layout) (m : List ℕ) where
-  -- its size and its fields
-  abbrev pub fieldsFault : ℕ → Checked (Unit {0})
-  fieldsFault at =
-      let layout = layouts (getD m at 0) in
-      andThen (sizeFault (least layout 2) (getD m (at + 1) 0) (length m - at)) λ _. fault layout 2 (blockAt m at)
+-- its size
+abbrev pub sizeFault : ℕ → List ℕ → ℕ → Checked (Unit {0})
+sizeFault least m at = demand (leb least (getD m (at + 1) 0)) blockTooSmall (demand (leb (at + getD m (at + 1) 0) (length m)) endsEarly (accept tt))
 
-  -- its first fault, told from the IDs in the set that have not come yet
-  abbrev pub awaitedFault : ℕ → ℕ → Checked (Unit {0})
-  awaitedFault awaited at = demand (leb (at + 2) (length m)) endsEarly (demand (bit awaited (getD m at 0)) wrongBlock (fieldsFault at))
+-- its size and its fields, by a layout
+abbrev pub layoutFault : Layout → List ℕ → ℕ → Checked (Unit {0})
+layoutFault L m at =
+    demand (leb (least L 2) (getD m (at + 1) 0)) blockTooSmall
+    (demand (leb (at + getD m (at + 1) 0) (length m)) endsEarly
+    (fault L 2 (blockAt m at)))
+
+-- by the layout of its ID
+abbrev pub fieldsFault : (ℕ → Layout) → List ℕ → ℕ → Checked (Unit {0})
+fieldsFault layouts m at = layoutFault (layouts (getD m at 0)) m at
 
 -- `awaited` has the IDs in the set that have not come yet
 abbrev pub Awaits : ℕ → (ℕ → Bool) → ℕ → Type 0
 Awaits set came awaited = (id : ℕ) → bit awaited id ≡ (bit set id && not (came id))
-
--- the layouts of the blocks of message 1, or else those of message 2, as the code asks for them
-abbrev pub layoutsBy : ℕ → ℕ → Layout
-layoutsBy message = layouts (cond (eqb message 1) capabilities configurations)
 
 -- ---- five numbers: the place of each known technology's block, and the place after the last block
 
@@ -84,6 +93,11 @@ noted (b ∷ blocks) at found = noted blocks (at + length b) (note (getD b 0 0) 
 abbrev pub Finds : Checked Walked → ℕ → List ℕ → ℕ → List ℕ → Type 0
 Finds (refuse x) at found f left = f ≡ numberOf x
 Finds (accept w) at found f left = (f ≡ 0) × (left ≡ noted (w .blocks) at found) × (getD left 4 0 ≡ w .end)
+
+-- of the blocks that are left from a place on, whatever came before them
+pub record FindsLeft (layouts : ℕ → Layout) (m : List ℕ) (at left awaited : ℕ) (found : List ℕ) (f : ℕ) (after : List ℕ) : Type 0 where
+  pub finds : (set : ℕ) (came : ℕ → Bool) → Awaits set came awaited → Finds (walk layouts set m left came at) at found f after
+  pub size : length after ≡ 5
 
 -- a message that carries a set alone, and one with blocks
 abbrev pub setAlone : Row
@@ -147,9 +161,13 @@ pub record Hears (o : Checked Record) (m : List ℕ) (h : Heard) : Type 0 where
 
 -- ---- the listing: the blocks that are left from a place on
 
--- the head of the block at a place
-abbrev pub headAt : List ℕ → ℕ → Block
-headAt m at = record { place = at; id = getD m at 0; size = getD m (at + 1) 0 }
+-- the block at a place, none at 0
+abbrev pub listedAt : List ℕ → ℕ → Block
+listedAt m at = cond (eqb at 0) noBlock (record { place = at; id = getD m at 0; size = getD m (at + 1) 0 })
+
+-- a place with a block's two head octets, or 0
+abbrev pub Heads : List ℕ → ℕ → Type 0
+Heads m at = (at ≡ 0 → ⊥) → at + 2 ≤ length m
 
 -- the walk passes over as many blocks
 pub record Passes (m : List ℕ) (left at : ℕ) : Type 0 where
@@ -159,6 +177,12 @@ pub record Passes (m : List ℕ) (left at : ℕ) : Type 0 where
   pub walked : Walked
   pub accepted : walk layouts set m left came at ≡ accept walked
 
--- the n-th of them
-abbrev pub NthBlock : List ℕ → ℕ → ℕ → ℕ → Block → Type 0
-NthBlock m left at n r = (p : Passes m left at) → r ≡ nthFrom (p .walked .blocks) at n
+-- the place of the n-th of them, 0 for none
+pub record NthPlace (m : List ℕ) (left at n r : ℕ) : Type 0 where
+  pub heads : Heads m r
+  pub lists : (p : Passes m left at) → listedAt m r ≡ nthFrom (p .walked .blocks) at n
+
+-- the place of the n-th block of a message, 0 for none
+pub record Lists (m : List ℕ) (n r : ℕ) : Type 0 where
+  pub heads : Heads m r
+  pub lists : listedAt m r ≡ nthBlock m n

@@ -1,28 +1,30 @@
-use Rattle.codec.proofs.MessageCases.{judged-refused, judged-as, body-unread, body-short, body-blocks}
-use Rattle.codec.specs.Table.{row}
-use Rattle.codec.specs.Message.{setOf, blocksFrom}
-use Rattle.codec.specs.Inner.Places.{layoutsBy}
-use lib.Count.{ones}
-use Prim.Native.Nat.{ℕ}
-use mathlib.Core.Path.{refl, ap, _∙_}
+use Rattle.codec.proofs.MessageCases.{judged-refused, body-unread, body-short, body-stop, body-end}
+use Rattle.codec.specs.Table.{readable, row}
+use Rattle.codec.specs.Message.{versionOf, idOf}
+use mathlib.Core.Bool.{true}
+use mathlib.Core.Path.{_≡_, refl, ap}
 use Rattle.codec.proofs.Laws.{failed, passed}
 use native.Mathlib.Omega.{arith}
 use borrow.Author.Needs.{needs}
 use Rattle.codec.proofs.checks.response_fault.Statement.{statement}
 use Rattle.codec.proofs.checks.response_fault.Tie as tie
 
+read : (c : tie.Else1) → let m = c .before .before .before .before .before .args .m .now in readable (versionOf m) (idOf m) ≡ true
+read c = passed (c .before .readable .ensures) (c .if1 .left)
+
 returns : tie.Need-returns
 returns c = judged-refused (body-unread _ (failed (c .before .readable .ensures) (c .if1 .taken))) (λ e. omega arith) (c .before .before .before .before .before .pre .3)
 
 returns-2 : tie.Need-returns-2
-returns-2 c = judged-refused (body-short _ (passed (c .before .before .readable .ensures) (c .before .if1 .left)) (row 1) (ap row (c .before .before .before .before .before .before .pre .2)) (c .if2 .taken)) (λ e. omega arith) (c .before .before .before .before .before .before .pre .3)
+returns-2 c = let s = c .before .before .before .before .before .before .pre in judged-refused (body-short _ (read (c .before)) (row 1) (ap row (s .2)) (c .if2 .taken)) (λ e. omega arith) (s .3)
 
 returns-3 : tie.Need-returns-3
-returns-3 c =
-    let s = c .before .before .before .before .before .before .before .before in
-    let m = s .args .m .now in
-    judged-as (c .blocks-fault .ensures)
-    (ap (λ (id : ℕ). blocksFrom (layoutsBy id) m (ones (setOf m)) 4) (s .pre .2) ∙ body-blocks m (passed (c .before .before .before .before .readable .ensures) (c .before .before .before .if1 .left)) (row 1) (ap row (s .pre .2)) (c .before .before .if2 .left) refl)
+returns-3 c = body-stop _ (read (c .before .before .before .before .before .before)) (row 1) (ap row (c .before .before .before .before .before .before .before .before .before .before .before .pre .2)) (c .before .before .before .before .before .if2 .left) refl (rw (c .before .before .before .before .u16-at .ensures) at (c .before .walk-capabilities .ensures)) (c .if3 .taken)
+
+returns-4 : tie.Need-returns-4
+returns-4 c =
+    body-end _ (read (c .before .before .before .before .before .before .before .before .before)) (row 1) (ap row (c .before .before .before .before .before .before .before .before .before .before .before .before .before .before .pre .2)) (c .before .before .before .before .before .before .before .before .if2 .left) refl (rw (c .before .before .before .before .before .before .before .u16-at .ensures) at (c .before .before .before .before .walk-capabilities .ensures)) (c .before .before .before .if3 .left)
+    (rw (c .before .wide .ensures) at (c .end-fault .ensures))
 
 pub response-fault-spec : {M : Type 1} → statement M
 response-fault-spec =
@@ -34,4 +36,10 @@ response-fault-spec =
     returns
     returns-2
     (search needs)
-    returns-3)
+    (search needs)
+    (search needs)
+    returns-3
+    (search needs)
+    (search needs)
+    (search needs)
+    returns-4)

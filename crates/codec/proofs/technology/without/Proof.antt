@@ -4,10 +4,10 @@ use Rattle.codec.proofs.technology.without.Statement.{statement}
 use Rattle.codec.proofs.technology.without.Tie as tie
 
 shl-result : tie.Need-shl-result
-shl-result c = bit-under 16 (c .args .set) (omega arith) (c .args .id) (c .pre)
+shl-result c = bit-under 32 (c .args .bits) (omega arith) (c .args .n) (c .pre)
 
 returns : tie.Need-returns
-returns c = bit-without (c .args .set) (c .args .id) (bit-under 16 (c .args .set) (omega arith) (c .args .id) (c .pre)) (c .pre)
+returns c = bit-without (c .args .bits) (c .args .n) (bit-under 32 (c .args .bits) (omega arith) (c .args .n) (c .pre)) (c .pre)
 
 pub without-spec : {M : Type 1} → statement M
 without-spec = tie.close (tie.spec shl-result returns)

@@ -1,28 +1,22 @@
-use Rattle.codec.proofs.Laws.{failed, passed}
-use Rattle.codec.specs.Blocks.{interval}
-use Rattle.codec.specs.Layout.{test}
-use mathlib.Core.Path.{ap, _∙_}
+use Rattle.codec.specs.Blocks.{uwbCapability}
+use Rattle.codec.proofs.WalkCases.{size-stop, size-whole, size-enough, size-next}
 use borrow.Author.Needs.{needs}
 use Rattle.codec.proofs.uwb.capability_fault.Statement.{statement}
 use Rattle.codec.proofs.uwb.capability_fault.Tie as tie
 
 returns : tie.Need-returns
-returns c = rw (failed (c .before .allowed-interval .ensures ∙ ap (test interval) (c .before .before .u16-at .ensures)) (c .if1 .taken))
+returns c = let s = c .before .before .before .args in size-stop uwbCapability (s .m .now) (s .at) (c .before .size-fault .ensures) (c .if1 .taken)
+
+block-octets-requires : tie.Need-block-octets-requires
+block-octets-requires c κs = let s = c .before .before .before in (s .pre, size-whole uwbCapability (s .args .m .now) (s .args .at) (c .before .size-fault .ensures) (c .if1 .left))
+
+capability-fields-fault-requires : tie.Need-capability-fields-fault-requires
+capability-fields-fault-requires c κs = let s = c .before .before .before .before .args in size-enough uwbCapability (s .m .now) (s .at) (c .before .before .size-fault .ensures) (c .before .if1 .left) (c .block-octets .ensures .1)
 
 returns-2 : tie.Need-returns-2
-returns-2 c = rw (passed (c .before .before .before .before .allowed-interval .ensures ∙ ap (test interval) (c .before .before .before .before .before .u16-at .ensures)) (c .before .before .before .if1 .left), failed (c .before .inside .ensures) (c .if2 .taken))
-
-returns-3 : tie.Need-returns-3
-returns-3 c = rw (passed (c .before .before .before .before .allowed-interval .ensures ∙ ap (test interval) (c .before .before .before .before .before .u16-at .ensures)) (c .before .before .before .if1 .left), passed (c .before .inside .ensures) (c .if2 .left))
+returns-2 c = let s = c .before .before .before .before .before .args in size-next uwbCapability (s .m .now) (s .at) (c .before .before .before .size-fault .ensures) (c .before .before .if1 .left) (rw (c .before .block-octets .ensures .0) at (c .capability-fields-fault .ensures))
 
 pub capability-fault-spec : {M : Type 1} → statement M
 capability-fault-spec =
     tie.close
-    (tie.spec
-    (search needs)
-    (search needs)
-    returns
-    (search needs)
-    (search needs)
-    returns-2
-    returns-3)
+    (tie.spec (search needs) returns block-octets-requires capability-fields-fault-requires returns-2)

@@ -1,0 +1,11 @@
+use Rattle.codec.proofs.Bits.{bit-above}
+use mathlib.Core.Path.{sym}
+use borrow.Author.Needs.{needs}
+use Rattle.codec.proofs.technology.has_bit.Statement.{statement}
+use Rattle.codec.proofs.technology.has_bit.Tie as tie
+
+returns-2 : tie.Need-returns-2
+returns-2 c = sym (bit-above 32 (c .before .args .bits) (search needs) (c .before .args .n) (c .if1 .left))
+
+pub has-bit-spec : {M : Type 1} → statement M
+has-bit-spec = tie.close (tie.spec (search needs) (search needs) returns-2)
