@@ -63,7 +63,7 @@ fn end_fault(m: &[u8], end: usize) -> u8
 }
 
 // The first fault from the version on of a message that carries a set alone, 0 for none.
-fn set_fault(m: &[u8]) -> u8
+pub(crate) fn set_fault(m: &[u8]) -> u8
     requires { ⌜ (2 ≤ length (now m)) × (row (idOf (now m)) ≡ setAlone) ⌝ }
     ensures { λ f. ⌜ f ≡ numberIn (body (now (m .entry))) ⌝ }
 {
