@@ -4,13 +4,11 @@ use native.Mathlib.Omega.{arith}
 use mathlib.Core.Path.{_≡_, refl, fun-ext}
 use mathlib.Core.Bool.{true}
 use mathlib.Core.List.{[]}
-use lib.ListN.{replicate}
 use borrow.Author.Tests.{ne-eqb}
 use Rattle.codec.specs.Technology.{Technology, uwb, cs, nan, rssi, technologyId}
-use Rattle.codec.specs.Layout.{Layout, Values, zeroes, value}
+use Rattle.codec.specs.Layout.{Layout, Values}
 use Rattle.codec.specs.Blocks.{uwbCapability, csCapability, nanCapability, rssiBlock, uwbConfiguration, csConfiguration, nanConfiguration, Column, capabilities, configurations, cell, layouts}
 use Rattle.codec.specs.Records.{make, fields, toRecord, ofRecord}
-use Rattle.codec.specs.Inner.Places.{Roomy}
 use Rattle.codec.specs.declared.records.Record.{Record}
 use Rattle.codec.proofs.Layouts.{fits, most}
 

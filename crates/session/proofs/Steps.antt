@@ -31,7 +31,7 @@ use Rattle.session.specs.declared.state.Answer.{Answer}
 use Rattle.codec.specs.Technology.{technologies, setLimit, Technology, technologyId, uwb, nan, rssi, names, naming, bit, ofBits, inBoth}
 use Rattle.session.specs.Within.{withinProfile}
 use Rattle.session.specs.Rules.{validProfile, eligible, message, advertisement, Call, Kind, request, configuration, stop, kindOf, octetsOf, replied, shows, capabilityReply, Served, conclude, giveOut, configure, setBy, endedBy, halt, serve, respond, call, after, answerTo}
-use Rattle.session.specs.Session.{yes, stateIn, markIn, withStates, withMarks, onSession, sessionCall, Gives, asProfile, profileOf}
+use Rattle.session.specs.Session.{yes, withMarks, onSession, sessionCall, Gives, asProfile, profileOf}
 use Rattle.session.specs.Inner.Replies.{Delivers, settle, Answers}
 use Rattle.codec.proofs.SetLaws.{naming-below, names-naming}
 

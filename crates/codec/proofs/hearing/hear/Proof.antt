@@ -1,4 +1,3 @@
-use Rattle.codec.specs.Technology.{known}
 use Rattle.codec.specs.Table.{Row, row}
 use Rattle.codec.specs.Message.{idOf}
 use Rattle.codec.specs.Inner.Places.{numberIn, noPlaces, setAlone, carriesBlocks, Located}
@@ -7,7 +6,6 @@ use Rattle.codec.proofs.Rows.{other-alone}
 use Rattle.codec.proofs.Found.{located}
 use Rattle.codec.proofs.Heard.{refused-heard, heard-alone, heard-settings}
 use mathlib.Core.Path.{_≡_, refl, ap, _∙_}
-use native.Mathlib.Omega.{arith}
 use borrow.Author.Needs.{needs}
 use Rattle.codec.proofs.hearing.hear.Statement.{statement}
 use Rattle.codec.proofs.hearing.hear.Tie as tie
