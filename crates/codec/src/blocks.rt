@@ -1,5 +1,4 @@
-// The first fault of a block by its technology's ID, for each column of blocks. A block of an unknown technology is tested by its
-// size alone.
+// The first fault of a block by its technology's ID, for each column of blocks.
 use crate::cs;
 use crate::nan;
 use crate::rssi;
@@ -15,7 +14,7 @@ ghost use lib.ListN.{length};
 ghost use Rattle.codec.specs.Blocks.{capabilities, configurations, layouts};
 ghost use Rattle.codec.specs.Inner.Places.{numberIn, fieldsFault};
 
-// Of message 1.
+// The first fault of the block at a place of message 1, 0 for none. A block of an unknown technology is passed over by its size.
 pub(crate) fn capability_fault(m: &[u8], at: usize) -> u8
     requires { ⌜ at + 2 ≤ length (now m) ⌝ }
     ensures { λ f. ⌜ f ≡ numberIn (fieldsFault (layouts capabilities) (now (m .entry)) at) ⌝ }
@@ -29,7 +28,7 @@ pub(crate) fn capability_fault(m: &[u8], at: usize) -> u8
     }
 }
 
-// Of message 2.
+// The same of message 2.
 pub(crate) fn configuration_fault(m: &[u8], at: usize) -> u8
     requires { ⌜ at + 2 ≤ length (now m) ⌝ }
     ensures { λ f. ⌜ f ≡ numberIn (fieldsFault (layouts configurations) (now (m .entry)) at) ⌝ }

@@ -39,6 +39,7 @@ pub(crate) fn head_fault(m: &[u8]) -> u8
     0
 }
 
+// Whether a version of a message is read.
 fn readable(version: u8, id: u8) -> bool
     ensures { λ r. ⌜ r ≡ readable version id ⌝ }
 {

@@ -50,6 +50,7 @@ pub(crate) fn capability(b: &[u8]) -> CsCapability
     }
 }
 
+// The first fault in the fields of the configuration, 0 for none.
 fn configuration_fields_fault(b: &[u8]) -> u8
     requires { ⌜ 9 ≤ length (now b) ⌝ }
     ensures { λ r. ⌜ r ≡ numberIn (fault csConfiguration 2 (now (b .entry))) ⌝ }

@@ -14,6 +14,7 @@ pub const STOP: u8 = 6;
 
 pub const STOP_RESPONSE: u8 = 7;
 
+// Whether an ID is that of a message, and not reserved.
 pub(crate) fn assigned(id: u8) -> bool
     ensures { λ r. ⌜ r ≡ assigned id ⌝ }
 {

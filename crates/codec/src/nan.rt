@@ -37,6 +37,7 @@ pub struct NanConfiguration {
     pub periodic: u8,
 }
 
+// The first fault in the fields of the capability, 0 for none.
 fn capability_fields_fault(b: &[u8]) -> u8
     requires { ⌜ 6 ≤ length (now b) ⌝ }
     ensures { λ r. ⌜ r ≡ numberIn (fault nanCapability 2 (now (b .entry))) ⌝ }
@@ -71,6 +72,7 @@ pub(crate) fn capability(b: &[u8]) -> NanCapability
     }
 }
 
+// The first fault in the fields of the configuration, 0 for none.
 fn configuration_fields_fault(b: &[u8]) -> u8
     requires { ⌜ 3 ≤ length (now b) ⌝ }
     ensures { λ r. ⌜ r ≡ numberIn (fault nanConfiguration 2 (now (b .entry))) ⌝ }

@@ -95,6 +95,7 @@ fn allowed_country(pair: [u8; 2]) -> bool
     inside(65, 90, pair[0]) & inside(65, 90, pair[1])
 }
 
+// The first fault in the fields of the capability, 0 for none.
 fn capability_fields_fault(b: &[u8]) -> u8
     requires { ⌜ 20 ≤ length (now b) ⌝ }
     ensures { λ r. ⌜ r ≡ numberIn (fault uwbCapability 2 (now (b .entry))) ⌝ }
@@ -155,6 +156,7 @@ fn after_key_fault(b: &[u8], at: usize) -> u8
     0
 }
 
+// The first fault in the fields of the configuration, 0 for none.
 fn configuration_fields_fault(b: &[u8]) -> u8
     requires { ⌜ 15 ≤ length (now b) ⌝ }
     ensures { λ r. ⌜ r ≡ numberIn (fault uwbConfiguration 2 (now (b .entry))) ⌝ }

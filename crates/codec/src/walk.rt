@@ -29,7 +29,7 @@ fn awaited_fault(m: &[u8], at: usize, awaited: u32) -> u8
     0
 }
 
-// Keeps the place of a known technology's block; the place after the block.
+// Keeps the place of the block, if its technology is known, and gives the place after it.
 fn pass(m: &[u8], at: usize, found: &mut [u16; 5]) -> usize
     requires { ⌜ (at + 2 ≤ length (now m)) × (length (now m) ≤ messageLimit) × (length (now found) ≡ 5) ⌝ }
     ensures { λ r. ⌜ (r ≡ placeAfter (now (m .entry)) at) × (now (found .exit) ≡ note (getD (now (m .entry)) at 0) at (now (found .entry))) × (length (now (found .exit)) ≡ 5) ⌝ }
