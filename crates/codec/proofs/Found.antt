@@ -152,7 +152,7 @@ parsed m blocks e =
     }
 
 -- an ID that is not in the set has no block
-pub no-block : (k : Column) (set : ℕ) (t : Technology) (blocks : List (List ℕ)) → Each (Whole (layouts k) set) blocks → names set t ≡ false → fieldsIn (cell k t) (technologyId t) blocks ≡ zeroes (cell k t)
+no-block : (k : Column) (set : ℕ) (t : Technology) (blocks : List (List ℕ)) → Each (Whole (layouts k) set) blocks → names set t ≡ false → fieldsIn (cell k t) (technologyId t) blocks ≡ zeroes (cell k t)
 no-block k set t [] w n = refl
 no-block k set t (b ∷ blocks) w n =
     let d : eqb (getD b 0 0) (technologyId t) ≡ false = ne-eqb (getD b 0 0) (technologyId t) (λ e. let z : _≡_ {A = ℕ} 0 1 = cc (w .0 .named, ap (bit set) e) in omega arith) in

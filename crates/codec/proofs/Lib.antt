@@ -17,7 +17,7 @@ pub mod MessageCases
 pub mod ValidCases
 pub mod Pieces
 pub mod Found
-mod Heard
+pub mod Heard
 pub mod Listed
 pub mod Exact
 pub mod ReadBack

@@ -7,7 +7,7 @@ use crate::message::CAPABILITY_RESPONSE;
 use crate::message::CONFIGURATION;
 use crate::octets::u16_at;
 use crate::places::NO_PLACE;
-use crate::places::wide;
+use crate::places::wide_place;
 use crate::records::Heard;
 use crate::records::unheard;
 use crate::technology::SET_LIMIT;
@@ -35,10 +35,10 @@ fn heard(id: u8, set: u16) -> Heard
 fn heard_at(set: u16, places: &[u16; 5]) -> Heard
     ensures { λ r. ⌜ r ≡ record { refusal = 0; id = 2; set = set; uwb = getD (now (places .entry)) 0 0; cs = getD (now (places .entry)) 1 0; nan = getD (now (places .entry)) 2 0; rssi = getD (now (places .entry)) 3 0 } ⌝ }
 {
-    let uwb = wide(places[0]);
-    let cs = wide(places[1]);
-    let nan = wide(places[2]);
-    let rssi = wide(places[3]);
+    let uwb = wide_place(places[0]);
+    let cs = wide_place(places[1]);
+    let nan = wide_place(places[2]);
+    let rssi = wide_place(places[3]);
     Heard {
         refusal: 0,
         id: CONFIGURATION,
@@ -50,7 +50,7 @@ fn heard_at(set: u16, places: &[u16; 5]) -> Heard
     }
 }
 
-// Reads a message as `read` does, for a tag. Kinds without blocks have no places.
+// Reads a message as `read` does, for a tag.
 pub fn hear(m: &[u8]) -> Heard
     ensures { λ r. ⌜ Hears (reading (now (m .entry))) (now (m .entry)) r ⌝ }
 {

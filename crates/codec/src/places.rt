@@ -1,4 +1,5 @@
-// Reading at a place of the message, for any place: what the block there says, or zero if the message has no room for one.
+// Reading at any place of a message, as if a block began there: its fields, or zero where the message ends before them, or where a key or
+// name is longer than its array.
 use crate::cs;
 use crate::cs::CsCapability;
 use crate::cs::CsConfiguration;
@@ -107,7 +108,7 @@ pub fn rssi_block(m: &[u8], at: u32) -> Rssi
 }
 
 // A place that is kept in 16 bits.
-pub(crate) fn wide(place: u16) -> u32
+pub(crate) fn wide_place(place: u16) -> u32
     ensures { λ r. ⌜ r ≡ place ⌝ }
 {
     place as u32
@@ -117,10 +118,10 @@ pub(crate) fn wide(place: u16) -> u32
 pub(crate) fn capability_at(m: &[u8], places: &[u16; 5]) -> Capability
     ensures { λ r. ⌜ r ≡ columnAt capabilities (now (m .entry)) (now (places .entry)) ⌝ }
 {
-    let uwb = uwb_capability(m, wide(places[0]));
-    let cs = cs_capability(m, wide(places[1]));
-    let nan = nan_capability(m, wide(places[2]));
-    let rssi = rssi_block(m, wide(places[3]));
+    let uwb = uwb_capability(m, wide_place(places[0]));
+    let cs = cs_capability(m, wide_place(places[1]));
+    let nan = nan_capability(m, wide_place(places[2]));
+    let rssi = rssi_block(m, wide_place(places[3]));
     Capability { uwb, cs, nan, rssi }
 }
 
@@ -128,9 +129,9 @@ pub(crate) fn capability_at(m: &[u8], places: &[u16; 5]) -> Capability
 pub(crate) fn configuration_at(m: &[u8], places: &[u16; 5]) -> Configuration
     ensures { λ r. ⌜ r ≡ columnAt configurations (now (m .entry)) (now (places .entry)) ⌝ }
 {
-    let nan = nan_settings(m, wide(places[2]));
-    let uwb = uwb_settings(m, wide(places[0]));
-    let cs = cs_settings(m, wide(places[1]));
-    let rssi = rssi_block(m, wide(places[3]));
+    let nan = nan_settings(m, wide_place(places[2]));
+    let uwb = uwb_settings(m, wide_place(places[0]));
+    let cs = cs_settings(m, wide_place(places[1]));
+    let rssi = rssi_block(m, wide_place(places[3]));
     Configuration { uwb, cs, nan, rssi }
 }

@@ -62,7 +62,8 @@ pub struct Reading {
     pub value: Record,
 }
 
-// What a tag hears: the reader's refusal, ID and set, and where the settings of a Configuration stand in the message.
+// What a tag hears: the reader's refusal, ID and set, and where the settings of a Configuration stand in the message; 0 for other
+// messages.
 #[repr(C)]
 pub struct Heard {
     pub refusal: u8,
@@ -74,7 +75,7 @@ pub struct Heard {
     pub rssi: u32,
 }
 
-// The number of a message's first fault, or 0 and the places of the known technologies' blocks and of the end.
+// The number of a message's first fault, or 0 and places at which reading gives its record.
 pub struct Found {
     pub fault: u8,
     pub places: [u16; 5],
@@ -133,7 +134,7 @@ pub fn zero_capability() -> Capability
     }
 }
 
-// The zero settings of a technology have a function each: as one literal they cost the reader 32 octets of stack.
+// The zero settings of UWB, NAN and RSSI.
 fn zero_uwb() -> UwbConfiguration
     ensures { λ r. ⌜ r ≡ blank configurations .uwb ⌝ }
 {

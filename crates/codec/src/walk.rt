@@ -1,4 +1,4 @@
-// The walk over the blocks of a message, for each column of blocks. It keeps numbers only; the record is made once, afterwards.
+// The walk over the blocks of a message, for each column of blocks. It keeps numbers only.
 use crate::blocks::capability_fault;
 use crate::blocks::configuration_fault;
 use crate::refusal::ENDS_EARLY;

@@ -17,7 +17,7 @@ ghost use Rattle.session.specs.Rules.{message, advertisement};
 ghost use Rattle.session.specs.Session.{Does, profileOf, started};
 
 // Reads a message as `codec::read` does. It returns by the kind of message here too, so that the compiler puts each record straight
-// into what is returned.
+// into what is returned. The known bits of a set are in its low octet.
 #[no_mangle]
 pub extern "C" fn raydulcimer_read(message: &[u8]) -> Reading
     ensures { λ r. ⌜ Reads (now (message .entry)) r ⌝ }

@@ -70,7 +70,7 @@ module _ (p : Profile) (wanted : Technology → Bool) (v : validProfile p ≡ tr
   unfolding shows
   has t e = and-true (wanted t) (names (p .set) t) e .1
 
-  pub reply-valid : valid (capabilityReply p wanted) ≡ true
+  reply-valid : valid (capabilityReply p wanted) ≡ true
   unfolding validProfile validColumn
   reply-valid =
       let f = shows p wanted in

@@ -1,4 +1,4 @@
--- What the inner functions of the reader and of the listing keep: the places of the known technologies' blocks, and what reading a block without a fault rests on.
+-- What the functions keep that find the blocks of a message, read at their places and list them.
 use Prim.Native.Nat.{ℕ, _+_, _≤_}
 use mathlib.Core.Path.{_≡_}
 use mathlib.Core.List.{List, [], _∷_}
@@ -24,14 +24,14 @@ abbrev pub numberIn : {A : Type 0} → Checked A → ℕ
 numberIn (refuse x) = numberOf x
 numberIn (accept a) = 0
 
--- whether octets reach past the last field of a block, and what is counted fits its array
+-- whether octets reach past the last field of a block, and what is counted fits its array: as a test, and as what the reading of each
+-- field rests on
 abbrev pub roomy : Layout → ℕ → List ℕ → Bool
 roomy [] at s = leb at (length s)
 roomy (number x w t ∷ L) at s = roomy L (at + w) s
 roomy (octets x n t ∷ L) at s = roomy L (at + n) s
 roomy (counted y x t c ∷ L) at s = leb (getD s at 0) c && roomy L (at + 1 + getD s at 0) s
 
--- they do
 abbrev pub Roomy : Layout → ℕ → List ℕ → Type 0
 Roomy [] at s = at ≤ length s
 Roomy (number x w t ∷ L) at s = Roomy L (at + w) s
@@ -115,7 +115,7 @@ pub record Judged (kept : Bool) (c : Checked (List (List ℕ))) (at : ℕ) (foun
 
 -- ---- the record that the places give
 
--- the fields of the block that begins at a place, or zero if the message has no room for them there
+-- the fields as if a block began at a place; zero where the message ends before them, or a key or name is longer than its array
 abbrev pub fieldsAt : (L : Layout) → List ℕ → ℕ → Values L
 fieldsAt L m at = cond (roomy L 2 (drop at m)) (value L 2 (drop at m)) (zeroes L)
 

@@ -3,7 +3,7 @@ use Rattle.codec.proofs.hearing.heard_at.Statement.{statement}
 use Rattle.codec.proofs.hearing.heard_at.Tie as tie
 
 returns : tie.Need-returns
-returns c = rw (c .before .before .before .before .before .before .wide .ensures, c .before .before .before .before .wide2 .ensures, c .before .before .wide3 .ensures, c .wide4 .ensures)
+returns c = rw (c .before .before .before .before .before .before .wide-place .ensures, c .before .before .before .before .wide-place2 .ensures, c .before .before .wide-place3 .ensures, c .wide-place4 .ensures)
 
 pub heard-at-spec : {M : Type 1} → statement M
 heard-at-spec =
