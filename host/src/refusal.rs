@@ -32,7 +32,8 @@ pub enum Refusal {
 }
 
 impl Refusal {
-    const ALL: [Refusal; 12] = [
+    /// Every refusal, by rising number.
+    pub const ALL: [Refusal; 12] = [
         Refusal::TooLong,
         Refusal::EndsEarly,
         Refusal::ReservedId,

@@ -23,21 +23,6 @@ const STRICT: [&str; 7] = [
     "-Werror",
 ];
 
-const REFUSALS: [Refusal; 12] = [
-    Refusal::TooLong,
-    Refusal::EndsEarly,
-    Refusal::ReservedId,
-    Refusal::WrongVersion,
-    Refusal::SetsDiffer,
-    Refusal::BlockTooSmall,
-    Refusal::WrongBlock,
-    Refusal::NotAllowed,
-    Refusal::LeftOver,
-    Refusal::NotForTag,
-    Refusal::BufferTooShort,
-    Refusal::NotValid,
-];
-
 const INCLUDE: &str = "#include \"raydulcimer.h\"\n";
 
 /// A call: the struct that it gives, its name, and its arguments, which are parameters of `caller`.
@@ -125,7 +110,7 @@ fn own_macros(compiler: &str) -> BTreeMap<String, String> {
 /// What header.c prints: nothing is wrong with a length, and a refusal's words are those of the bindings.
 fn expected() -> String {
     let mut lines = vec!["0 not refused".to_string()];
-    lines.extend(REFUSALS.map(|refusal| format!("{} {}", refusal.number(), refusal.words())));
+    lines.extend(Refusal::ALL.map(|refusal| format!("{} {}", refusal.number(), refusal.words())));
     lines.extend((13..=255).map(|number| format!("{number} no call refuses with this number")));
     lines.join("\n") + "\n"
 }

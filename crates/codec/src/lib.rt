@@ -54,6 +54,7 @@ pub use rssi::Rssi;
 pub use technology::both_have;
 pub use technology::common;
 pub use technology::has;
+pub use technology::has_bit;
 pub use technology::set_if;
 pub use technology::set_naming;
 pub use uwb::Channel;

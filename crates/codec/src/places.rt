@@ -23,6 +23,7 @@ ghost use Rattle.codec.specs.Inner.Places.{fieldsAt, columnAt};
 // The place of a block that is absent, past the end of every message.
 pub(crate) const NO_PLACE: u16 = 65535;
 
+// UWB's fields in message 1.
 fn uwb_capability(m: &[u8], at: u32) -> UwbCapability
     ensures { λ r. ⌜ r ≡ toUwbCapability (fieldsAt uwbCapability (now (m .entry)) at) ⌝ }
 {
@@ -33,6 +34,7 @@ fn uwb_capability(m: &[u8], at: u32) -> UwbCapability
     uwb::capability(&m[i..])
 }
 
+// CS's.
 fn cs_capability(m: &[u8], at: u32) -> CsCapability
     ensures { λ r. ⌜ r ≡ toCsCapability (fieldsAt csCapability (now (m .entry)) at) ⌝ }
 {
@@ -43,6 +45,7 @@ fn cs_capability(m: &[u8], at: u32) -> CsCapability
     cs::capability(&m[i..])
 }
 
+// NAN's.
 fn nan_capability(m: &[u8], at: u32) -> NanCapability
     ensures { λ r. ⌜ r ≡ toNanCapability (fieldsAt nanCapability (now (m .entry)) at) ⌝ }
 {
@@ -53,6 +56,7 @@ fn nan_capability(m: &[u8], at: u32) -> NanCapability
     nan::capability(&m[i..])
 }
 
+// UWB's fields in message 2, its settings.
 pub fn uwb_settings(m: &[u8], at: u32) -> UwbConfiguration
     ensures { λ r. ⌜ r ≡ toUwbConfiguration (fieldsAt uwbConfiguration (now (m .entry)) at) ⌝ }
 {
@@ -70,6 +74,7 @@ pub fn uwb_settings(m: &[u8], at: u32) -> UwbConfiguration
     uwb::configuration(&m[i..])
 }
 
+// CS's.
 pub fn cs_settings(m: &[u8], at: u32) -> CsConfiguration
     ensures { λ r. ⌜ r ≡ toCsConfiguration (fieldsAt csConfiguration (now (m .entry)) at) ⌝ }
 {
@@ -80,6 +85,7 @@ pub fn cs_settings(m: &[u8], at: u32) -> CsConfiguration
     cs::configuration(&m[i..])
 }
 
+// NAN's.
 pub fn nan_settings(m: &[u8], at: u32) -> NanConfiguration
     ensures { λ r. ⌜ r ≡ toNanConfiguration (fieldsAt nanConfiguration (now (m .entry)) at) ⌝ }
 {
@@ -97,6 +103,7 @@ pub fn nan_settings(m: &[u8], at: u32) -> NanConfiguration
     nan::configuration(&m[i..])
 }
 
+// RSSI's fields, the same in both messages.
 pub fn rssi_block(m: &[u8], at: u32) -> Rssi
     ensures { λ r. ⌜ r ≡ toRssi (fieldsAt rssiBlock (now (m .entry)) at) ⌝ }
 {

@@ -107,6 +107,7 @@ pub(crate) fn message_id(message: SetMessage) -> u8
     }
 }
 
+// All fields zero.
 pub fn zero_capability() -> Capability
     ensures { λ r. ⌜ r ≡ blank capabilities ⌝ }
 {
@@ -134,60 +135,40 @@ pub fn zero_capability() -> Capability
     }
 }
 
-// The zero settings of UWB, NAN and RSSI.
-fn zero_uwb() -> UwbConfiguration
-    ensures { λ r. ⌜ r ≡ blank configurations .uwb ⌝ }
-{
-    UwbConfiguration {
-        address: [0; 2],
-        session_id: 0,
-        config_id: ConfigId(0),
-        channel: Channel(0),
-        preamble_index: PreambleIndex(0),
-        interval: 0,
-        slot: 0,
-        key_length: 0,
-        key: [0; 32],
-        country: [0; 2],
-        role: 0,
-        mode: 0,
-    }
-}
-
-fn zero_nan() -> NanConfiguration
-    ensures { λ r. ⌜ r ≡ blank configurations .nan ⌝ }
-{
-    NanConfiguration {
-        name_length: 0,
-        name: [0; 64],
-        role: 0,
-        periodic: 0,
-    }
-}
-
-fn zero_rssi() -> Rssi
-    ensures { λ r. ⌜ r ≡ blank configurations .rssi ⌝ }
-{
-    Rssi { address: [0; 6] }
-}
-
+// All fields zero.
 pub fn zero_configuration() -> Configuration
     ensures { λ r. ⌜ r ≡ blank configurations ⌝ }
 {
-    let uwb = zero_uwb();
-    let nan = zero_nan();
-    let rssi = zero_rssi();
     Configuration {
-        uwb,
+        uwb: UwbConfiguration {
+            address: [0; 2],
+            session_id: 0,
+            config_id: ConfigId(0),
+            channel: Channel(0),
+            preamble_index: PreambleIndex(0),
+            interval: 0,
+            slot: 0,
+            key_length: 0,
+            key: [0; 32],
+            country: [0; 2],
+            role: 0,
+            mode: 0,
+        },
         cs: CsConfiguration {
             security_level: 0,
             address: [0; 6],
         },
-        nan,
-        rssi,
+        nan: NanConfiguration {
+            name_length: 0,
+            name: [0; 64],
+            role: 0,
+            periodic: 0,
+        },
+        rssi: Rssi { address: [0; 6] },
     }
 }
 
+// A refusal, as `read` gives it.
 pub fn refused(number: u8) -> Reading
     ensures { λ r. ⌜ r ≡ refused number ⌝ }
 {

@@ -3,7 +3,7 @@ ghost use mathlib.Core.Path.{_≡_};
 ghost use mathlib.Core.Bool.{true, _&&_, not, cond};
 ghost use mathlib.Core.List.{[], _∷_};
 ghost use Prim.Native.Nat.{ℕ, _<_, _≤_};
-ghost use lib.Dec.{eqb};
+ghost use lib.Dec.{eqb, leb};
 ghost use Rattle.codec.specs.Technology.{bit, ofBits, naming, inBoth};
 
 pub const UWB: u8 = 0;
@@ -32,9 +32,9 @@ pub fn has(set: u16, id: u8) -> bool
     false
 }
 
-// Whether a number has bit n.
-pub(crate) fn has_bit(bits: u32, n: u8) -> bool
-    ensures { λ r. ⌜ r ≡ bit bits n ⌝ }
+// Whether a number has bit n, which then is at most 31.
+pub fn has_bit(bits: u32, n: u8) -> bool
+    ensures { λ r. ⌜ (r ≡ bit bits n) × (r ≡ (leb n 31 && bit bits n)) ⌝ }
 {
     if n < 32 {
         return (bits >> n) % 2 == 1;

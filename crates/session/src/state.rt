@@ -71,6 +71,7 @@ pub struct Started {
     pub refusal: u8,
 }
 
+// The states of technologies that are ranging.
 pub(crate) fn ranging_uwb(settings: UwbConfiguration) -> UwbState
     ensures { λ r. ⌜ r ≡ record { ranging = 1; settings = settings } ⌝ }
 {

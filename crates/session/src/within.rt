@@ -12,31 +12,19 @@ use codec::PreambleIndexes;
 use codec::UwbCapability;
 use codec::UwbConfiguration;
 ghost use mathlib.Core.Path.{_≡_};
-ghost use mathlib.Core.Bool.{_&&_};
-ghost use lib.Dec.{leb};
-ghost use Rattle.codec.specs.Technology.{uwb, cs, nan, bit};
+ghost use Rattle.codec.specs.Technology.{uwb, cs, nan};
 ghost use Rattle.session.specs.Within.{hasConfigId, hasChannel, hasPreambleIndex, hasRole, withinProfile};
-
-// Whether a number is at most 31 and has its bit.
-fn has_bit(bits: u32, n: u8) -> bool
-    ensures { λ r. ⌜ r ≡ (leb n 31 && bit bits n) ⌝ }
-{
-    if n <= 31 {
-        return (bits >> n) % 2 == 1;
-    }
-    false
-}
 
 fn has_config_id(ids: ConfigIds, id: ConfigId) -> bool
     ensures { λ r. ⌜ r ≡ hasConfigId ids id ⌝ }
 {
-    has_bit(ids.0, id.0)
+    codec::has_bit(ids.0, id.0)
 }
 
 fn has_channel(channels: Channels, channel: Channel) -> bool
     ensures { λ r. ⌜ r ≡ hasChannel channels channel ⌝ }
 {
-    has_bit(channels.0, channel.0)
+    codec::has_bit(channels.0, channel.0)
 }
 
 fn has_preamble_index(indexes: PreambleIndexes, index: PreambleIndex) -> bool
@@ -50,7 +38,7 @@ fn has_preamble_index(indexes: PreambleIndexes, index: PreambleIndex) -> bool
     if 32 < n {
         return false;
     }
-    has_bit(bits, n - 1)
+    codec::has_bit(bits, n - 1)
 }
 
 fn has_role(roles: u8, role: u8) -> bool

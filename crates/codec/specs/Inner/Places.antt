@@ -53,16 +53,16 @@ headFault m =
 abbrev pub awaitedFault : ℕ → List ℕ → ℕ → Checked (Unit {0})
 awaitedFault awaited m at = demand (leb (at + 2) (length m)) endsEarly (demand (bit awaited (getD m at 0)) wrongBlock (accept tt))
 
--- its size
+-- its size, and then what is next
+abbrev pub sized : ℕ → List ℕ → ℕ → Checked (Unit {0}) → Checked (Unit {0})
+sized least m at next = demand (leb least (getD m (at + 1) 0)) blockTooSmall (demand (leb (at + getD m (at + 1) 0) (length m)) endsEarly next)
+
 abbrev pub sizeFault : ℕ → List ℕ → ℕ → Checked (Unit {0})
-sizeFault least m at = demand (leb least (getD m (at + 1) 0)) blockTooSmall (demand (leb (at + getD m (at + 1) 0) (length m)) endsEarly (accept tt))
+sizeFault least m at = sized least m at (accept tt)
 
 -- its size and its fields, by a layout
 abbrev pub layoutFault : Layout → List ℕ → ℕ → Checked (Unit {0})
-layoutFault L m at =
-    demand (leb (least L 2) (getD m (at + 1) 0)) blockTooSmall
-    (demand (leb (at + getD m (at + 1) 0) (length m)) endsEarly
-    (fault L 2 (blockAt m at)))
+layoutFault L m at = sized (least L 2) m at (fault L 2 (blockAt m at))
 
 -- by the layout of its ID
 abbrev pub fieldsFault : (ℕ → Layout) → List ℕ → ℕ → Checked (Unit {0})

@@ -14,10 +14,10 @@ returns : tie.Need-returns
 returns c = let s = c .before .before .args in let short : length (s .m .now) < s .at + 2 = omega arith in rw (lt-leb _ _ short)
 
 returns-2 : tie.Need-returns-2
-returns-2 c = rw (le-leb _ _ (two (c .before .before .before)), failed (c .before .has-bit .ensures) (c .if2 .taken))
+returns-2 c = rw (le-leb _ _ (two (c .before .before .before)), failed (c .before .has-bit .ensures .0) (c .if2 .taken))
 
 returns-3 : tie.Need-returns-3
-returns-3 c = rw (le-leb _ _ (two (c .before .before .before)), passed (c .before .has-bit .ensures) (c .if2 .left))
+returns-3 c = rw (le-leb _ _ (two (c .before .before .before)), passed (c .before .has-bit .ensures .0) (c .if2 .left))
 
 pub awaited-fault-spec : {M : Type 1} → statement M
 awaited-fault-spec =
