@@ -151,7 +151,7 @@ struct raydulcimer_uwb_configuration {
     uint8_t slot;       /* 1, 2 */
     uint8_t key_length; /* 8, 16, 32 */
     uint8_t key[32];    /* zero past the key length */
-    uint8_t country[2]; /* letters A to Z */
+    uint8_t country[2]; /* letters A to Z, or "00" if not known */
     uint8_t role;       /* 1, 2 */
     uint8_t mode;       /* 1, 2 */
 };

@@ -92,7 +92,7 @@ pub struct UwbConfiguration {
     pub key_length: u8,
     /// zero past the key length; [`key()`](UwbConfiguration::key()) has the key alone
     pub key: [u8; 32],
-    /// letters A to Z
+    /// letters A to Z, or `b"00"` if not known
     pub country: [u8; 2],
     /// 1, 2
     pub role: u8,

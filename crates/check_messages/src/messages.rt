@@ -191,6 +191,26 @@ fn full() {
     );
 }
 
+// A Configuration of UWB with this country, and the rest allowed.
+fn check_country(name: &[u8], first: u8, second: u8) {
+    let mut m =
+        *b"\x01\x02\x01\x00\x01\x00\x00\x1B\xA1\xA2\x01\x00\x00\x00\x01\x09\x0B\xF0\x00\x02\x08KEYKEYKE??\x01\x02";
+    m[29] = first;
+    m[30] = second;
+    check(name, &m);
+}
+
+// Two letters, or 00 for a country that is not known.
+fn countries() {
+    check_country(b"country 00", b'0', b'0');
+    check_country(b"country A0", b'A', b'0');
+    check_country(b"country 0A", b'0', b'A');
+    check_country(b"country of two zero octets", 0, 0);
+    check_country(b"country /0", b'/', b'0');
+    check_country(b"country :0", b':', b'0');
+    check_country(b"country de", b'd', b'e');
+}
+
 pub(crate) fn run() {
     starred_heads();
     starred_blocks();
@@ -200,4 +220,5 @@ pub(crate) fn run() {
     normal_heads();
     normal_blocks();
     full();
+    countries();
 }

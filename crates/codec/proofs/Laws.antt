@@ -53,12 +53,6 @@ room at n s a r u e h =
 pub here : (at n : ℕ) (s a r : List ℕ) → drop at s ≡ a ++ r → length a ≡ n → part at n s ≡ a
 here at n s a r e h = ap (take n) e ∙ take-at a r n h
 
-pub two-of : (l : List ℕ) → length l ≡ 2 → l ≡ getD l 0 0 ∷ getD l 1 0 ∷ []
-two-of [] h = absurd (omega arith)
-two-of (x ∷ []) h = absurd (omega arith)
-two-of (x ∷ y ∷ []) h = refl
-two-of (x ∷ y ∷ z ∷ l) h = absurd (omega arith)
-
 pub two-head : (l : List ℕ) → 2 ≤ length l → take 2 l ≡ getD l 0 0 ∷ (getD l 1 0 ∷ [])
 two-head [] h = absurd (omega arith)
 two-head (x ∷ []) h = absurd (omega arith)

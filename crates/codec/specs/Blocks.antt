@@ -4,7 +4,7 @@ use mathlib.Core.List.{List, [], _∷_}
 use mathlib.Core.Bool.{cond}
 use lib.Dec.{eqb}
 use Rattle.codec.specs.Technology.{Technology, uwb, cs, nan, rssi, technologyId, technologies}
-use Rattle.codec.specs.Layout.{Test, Spelling, any, oneOf, between, free, letters, number, octets, counted, Layout}
+use Rattle.codec.specs.Layout.{Test, any, oneOf, between, free, country, number, octets, counted, Layout}
 
 -- ---- what both columns allow
 
@@ -21,9 +21,6 @@ periodic = between 0 1
 
 abbrev pub keyLength : Test
 keyLength = oneOf (8 ∷ 16 ∷ 32 ∷ [])
-
-abbrev pub country : Spelling
-country = letters
 
 -- ---- capability: message 1. 003 decides that these parts belong to the Response and not to the Request.
 

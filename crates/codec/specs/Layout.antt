@@ -15,9 +15,9 @@ pub data Test : Type 0 where
   oneOf : List ℕ → Test
   between : ℕ → ℕ → Test
 
--- which octets are allowed: any, or letters A to Z
+-- which octets are allowed: any, or those of a country
 pub data Spelling : Type 0 where
-  free letters : Spelling
+  free country : Spelling
 
 -- A field, by the name that 01's table gives it.
 -- number: so many octets, the lowest first. octets: so many, in wire order.
@@ -39,9 +39,13 @@ member (y ∷ l) x = eqb x y || member l x
 unfoldable pub inside : ℕ → ℕ → ℕ → Bool
 inside low high x = leb low x && leb x high
 
-unfoldable pub alphabetic : List ℕ → Bool
-alphabetic [] = true
-alphabetic (x ∷ l) = inside 65 90 x && alphabetic l
+-- two letters A to Z
+unfoldable pub twoLetters : ℕ → ℕ → Bool
+twoLetters x y = inside 65 90 x && inside 65 90 y
+
+-- the two ASCII digits 00: the country is not known
+unfoldable pub twoZeros : ℕ → ℕ → Bool
+twoZeros x y = eqb x 48 && eqb y 48
 
 abbrev pub test : Test → ℕ → Bool
 test any x = true
@@ -50,7 +54,7 @@ test (between low high) x = inside low high x
 
 abbrev pub spelled : Spelling → List ℕ → Bool
 spelled free l = true
-spelled letters l = alphabetic l
+spelled country l = twoLetters (getD l 0 0) (getD l 1 0) || twoZeros (getD l 0 0) (getD l 1 0)
 
 -- ---- what the fields of a block hold
 

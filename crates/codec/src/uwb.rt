@@ -19,10 +19,10 @@ use crate::technology::UWB;
 ghost use mathlib.Core.Path.{_≡_};
 ghost use mathlib.Core.Bool.{cond};
 ghost use Prim.Native.Nat.{_+_, _≤_};
-ghost use lib.ListN.{length, drop};
+ghost use lib.ListN.{length, getD, drop};
 ghost use Rattle.codec.specs.Octets.{allZero};
-ghost use Rattle.codec.specs.Layout.{spelled, inside, test, zeroed, write, value, fault};
-ghost use Rattle.codec.specs.Blocks.{interval, keyLength, country, uwbCapability, uwbConfiguration, uwbAfterKey};
+ghost use Rattle.codec.specs.Layout.{country, twoLetters, spelled, inside, test, zeroed, write, value, fault};
+ghost use Rattle.codec.specs.Blocks.{interval, keyLength, uwbCapability, uwbConfiguration, uwbAfterKey};
 ghost use Rattle.codec.specs.Records.{toUwbCapability, toUwbConfiguration, ofUwbCapability, ofUwbConfiguration};
 ghost use Rattle.codec.specs.Valid.{validFields};
 ghost use Rattle.codec.specs.Inner.Puts.{Put, blockIf, setOctets, beforeKey, afterKey};
@@ -89,10 +89,17 @@ fn allowed_key_length(x: u8) -> bool
     (x == 8) | (x == 16) | (x == 32)
 }
 
+fn two_letters(pair: [u8; 2]) -> bool
+    ensures { λ r. ⌜ r ≡ twoLetters (getD pair 0 0) (getD pair 1 0) ⌝ }
+{
+    inside(b'A', b'Z', pair[0]) & inside(b'A', b'Z', pair[1])
+}
+
+// 00 stands for a country that is not known.
 fn allowed_country(pair: [u8; 2]) -> bool
     ensures { λ r. ⌜ r ≡ spelled country pair ⌝ }
 {
-    inside(65, 90, pair[0]) & inside(65, 90, pair[1])
+    two_letters(pair) | ((pair[0] == b'0') & (pair[1] == b'0'))
 }
 
 // The first fault in the fields of the capability, 0 for none.
