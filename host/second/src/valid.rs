@@ -14,8 +14,9 @@ pub(crate) fn is_key_length(length: u8) -> bool {
     matches!(length, 8 | 16 | 32)
 }
 
+/// Two letters, or 00 for a country that is not known.
 pub(crate) fn is_country(letters: [u8; 2]) -> bool {
-    letters[0].is_ascii_uppercase() && letters[1].is_ascii_uppercase()
+    letters == *b"00" || (letters[0].is_ascii_uppercase() && letters[1].is_ascii_uppercase())
 }
 
 pub(crate) fn is_uwb_role(role: u8) -> bool {
@@ -129,4 +130,49 @@ fn is_nan_configuration(nan: &NanConfiguration) -> bool {
 /// Whether the octets past the length, which is at most `N`, are zero.
 fn is_zero_from<const N: usize>(octets: &[u8; N], length: u8) -> bool {
     octets.get(usize::from(length)..) == [0; N].get(usize::from(length)..)
+}
+
+#[cfg(test)]
+mod tests {
+    use super::*;
+    use crate::reader::read;
+    use crate::refusal::Refusal;
+    use crate::writer::{tests::configuration, write};
+
+    /// A record with this country, and the message of its layout.
+    fn with_country(country: &[u8; 2]) -> (Record, [u8; 33]) {
+        let mut record = configuration(1 << UWB, 8, 1);
+        let mut message = [0; 33];
+        write(&record, &mut message).unwrap();
+        record.configuration.uwb.country = *country;
+        // Only role and mode follow.
+        message[29..31].copy_from_slice(country);
+        (record, message)
+    }
+
+    #[test]
+    fn allowed_countries() {
+        for country in [b"AA", b"AZ", b"ZA", b"ZZ", b"00"] {
+            let (record, message) = with_country(country);
+            assert_eq!(read(&message), Ok(record));
+            let mut out = [0; 33];
+            assert_eq!(write(&record, &mut out), Ok(33));
+            assert_eq!(out, message);
+        }
+        let pairs = (0..=u16::MAX).map(u16::to_le_bytes);
+        assert_eq!(pairs.filter(|pair| is_country(*pair)).count(), 26 * 26 + 1);
+    }
+
+    #[test]
+    fn refused_countries() {
+        let digits = [b"A0", b"0A", b"Z0", b"0Z", b"09", b"90", b"11"];
+        let beside = [b"/0", b":0", b"0/", b"0:", b"@A", b"A@", b"[Z", b"Z["];
+        let small = [b"aa", b"Aa", b"aA", b"zZ", b"Zz", b"0a", b"a0"];
+        let zero_octets = [b"\0\0", b"0\0", b"\x000"];
+        for country in [&digits[..], &beside, &small, &zero_octets].concat() {
+            let (record, message) = with_country(country);
+            assert_eq!(read(&message), Err(Refusal::Field), "{country:?}");
+            assert_eq!(write(&record, &mut [0; 33]), Err(Refusal::NotValid), "{country:?}");
+        }
+    }
 }
