@@ -48,7 +48,7 @@ fn fields() -> Vec<Field> {
 /// The numbers at and beside every limit, and those with a single bit.
 fn numbers() -> Vec<u64> {
     let limits = [
-        3, 5, 6, 7, 9, 15, 17, 31, 33, 63, 64, 65, 66, 90, 91, 95, 96, 97, 119, 120, 121, 239, 240, 241,
+        3, 5, 6, 7, 9, 15, 17, 31, 33, 47, 48, 49, 63, 64, 65, 66, 90, 91, 95, 96, 97, 119, 120, 121, 239, 240, 241,
     ];
     let wide = [255, 599, 600, 601, 96 + 256, 1 << 16 | 1, u64::MAX];
     [0].into_iter()

@@ -3,6 +3,7 @@ pub mod changes;
 pub mod checker;
 pub mod convert;
 pub mod corpus;
+pub mod countries;
 mod counts;
 pub mod damage;
 mod fitted;

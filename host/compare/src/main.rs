@@ -3,17 +3,18 @@
 //!
 //!     compare [--seed N] [--random N] [--calls N] [--records N] [--part messages|sessions|logs]
 //!
-//! Messages: the corpus, the named messages, every shape with its changes, the writers, and N random mixtures (a million if
-//! not said). Sessions: lists of N calls altogether (a million if not said). Logs: many of them, and a long one with N records
-//! (300,000 if not said); the program that lists them is target/bin/list_log, or the file that RAYDULCIMER_LIST_LOG names.
+//! Messages: the corpus, the named messages, every shape with its changes, the writers, every pair of octets as a country,
+//! and N random mixtures (a million if not said). Sessions: lists of N calls altogether (a million if not said). Logs: many of
+//! them, and a long one with N records (300,000 if not said); the program that lists them is target/bin/list_log, or the file
+//! that RAYDULCIMER_LIST_LOG names.
 //!
 //! The seed is printed; a difference is printed with the octets or the calls that show it, and the exit status is then 1. It
 //! is 2 if the listing program is missing, and 3 if the lists of calls do not reach, again and again, all that they have to
-//! reach, or the logs do not reach it once.
+//! reach, or the countries or the logs do not reach it once.
 use compare::checker::Checker;
 use compare::program::Program;
 use compare::random::Random;
-use compare::{changes, corpus, damage, listings, mixtures, named, sessions};
+use compare::{changes, corpus, countries, damage, listings, mixtures, named, sessions};
 use std::fmt::Debug;
 use std::process::ExitCode;
 use std::time::{Instant, SystemTime, UNIX_EPOCH};
@@ -105,20 +106,21 @@ fn messages(options: &Options) -> Found {
     named::run(&mut checker);
     changes::run(&mut checker, &mut random);
     damage::run(&mut checker, &mut random);
+    let rarest = countries::run(&mut checker, &mut random).rarest();
     mixtures::run(&mut checker, &mut random, options.random);
+    let found = Found::new(checker.differences, &rarest, 1);
     println!(
-        "messages {} accepted {} blocks {} writes {} differences {} in {:.1} s",
+        "messages {} accepted {} blocks {} writes {} outcomes {} each at least {} times differences {} in {:.1} s",
         checker.messages,
         checker.accepted,
         checker.blocks,
         checker.writes,
+        rarest.len(),
+        rarest[0].1,
         checker.differences,
         start.elapsed().as_secs_f64()
     );
-    Found {
-        differences: checker.differences,
-        missing: 0,
-    }
+    found
 }
 
 /// Lists of calls.

@@ -3,8 +3,15 @@ use crate::checker::Checker;
 use crate::random::Random;
 use crate::shapes::{configuration, response, Block, Shape, Values};
 
+/// Characters of countries, most of which are not allowed.
+const COUNTRY: &[u8] = b"\0/09:AZaz";
+
+/// A valid shape, or one whose country alone may not be allowed.
 fn any_shape(random: &mut Random) -> Shape {
-    let (set, v) = (random.below(16) as u16, Values::any(random));
+    let (set, mut v) = (random.below(16) as u16, Values::any(random));
+    if random.below(8) == 0 {
+        v.country = [random.pick(COUNTRY), random.pick(COUNTRY)];
+    }
     match random.below(8) {
         0 => Shape::new(random.pick(&[0, 3, 6, 7]), set, vec![]),
         1..=3 => response(random, set, &v),
@@ -86,7 +93,7 @@ pub fn changed(random: &mut Random, mut shape: Shape, changes: usize) -> Vec<u8>
     message
 }
 
-/// A valid message with several changes at once, or with none.
+/// The message of any shape, with several changes at once or with none.
 pub fn any_message(random: &mut Random) -> Vec<u8> {
     let shape = any_shape(random);
     changed(random, shape, 4)

@@ -56,6 +56,8 @@ pub enum Outcome {
     Given(u16),
     Set(u16),
     Stopped(u16),
+    /// UWB was set with the country 00.
+    SetWithoutCountry,
     NamedOutsideProfile(u8),
     Unfit {
         rule: Rule,
@@ -101,6 +103,7 @@ use Outcome::*;
 /// Every outcome that a run has to reach.
 pub fn due() -> Vec<Outcome> {
     let mut due = vec![MarkComes, MarkHolds, MarkStays, HighMarkHolds, MarkHoldsRanging];
+    due.push(SetWithoutCountry);
     due.extend(Fault::ALL.map(NotStarted));
     due.extend(KINDS.map(ServedWithoutProfile));
     for number in 1..10 {

@@ -90,10 +90,18 @@ impl Values {
             level: random.below(5) as u8,
             nan_role: random.below(2) as u8,
             periodic: random.below(2) as u8,
-            country: [random.pick(b"ABMYZ"), random.pick(b"ABMYZ")],
+            country: any_country(random),
             key_length: random.pick(&KEY_LENGTHS),
             name_length: 1 + random.below(64),
         }
+    }
+}
+
+/// Two letters, or 00.
+fn any_country(random: &mut Random) -> [u8; 2] {
+    match [random.pick(b"0ABMYZ"), random.pick(b"ABMYZ")] {
+        [b'0', _] => *b"00",
+        letters => letters,
     }
 }
 
