@@ -44,8 +44,8 @@ unfoldable pub twoLetters : ℕ → ℕ → Bool
 twoLetters x y = inside 65 90 x && inside 65 90 y
 
 -- the two ASCII digits 00: the country is not known
-unfoldable pub twoZeros : ℕ → ℕ → Bool
-twoZeros x y = eqb x 48 && eqb y 48
+unfoldable pub unknownCountry : ℕ → ℕ → Bool
+unknownCountry x y = eqb x 48 && eqb y 48
 
 abbrev pub test : Test → ℕ → Bool
 test any x = true
@@ -54,7 +54,7 @@ test (between low high) x = inside low high x
 
 abbrev pub spelled : Spelling → List ℕ → Bool
 spelled free l = true
-spelled country l = twoLetters (getD l 0 0) (getD l 1 0) || twoZeros (getD l 0 0) (getD l 1 0)
+spelled country l = twoLetters (getD l 0 0) (getD l 1 0) || unknownCountry (getD l 0 0) (getD l 1 0)
 
 -- ---- what the fields of a block hold
 

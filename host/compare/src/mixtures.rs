@@ -1,12 +1,12 @@
-//! Random mixtures: valid messages with several changes at once, and octets of nothing but chance.
+//! Random mixtures: messages of any shape with several changes at once, and octets of nothing but chance.
 use crate::checker::Checker;
 use crate::random::Random;
 use crate::shapes::{configuration, response, Block, Shape, Values};
 
-/// Characters of countries, most of which are not allowed.
+/// Characters of which most pairs are no country.
 const COUNTRY: &[u8] = b"\0/09:AZaz";
 
-/// A valid shape, or one whose country alone may not be allowed.
+/// A valid shape, except that its country may not be allowed.
 fn any_shape(random: &mut Random) -> Shape {
     let (set, mut v) = (random.below(16) as u16, Values::any(random));
     if random.below(8) == 0 {

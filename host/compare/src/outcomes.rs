@@ -57,7 +57,7 @@ pub enum Outcome {
     Set(u16),
     Stopped(u16),
     /// UWB was set with the country 00.
-    SetWithoutCountry,
+    SetCountryUnknown,
     NamedOutsideProfile(u8),
     Unfit {
         rule: Rule,
@@ -102,50 +102,71 @@ use Outcome::*;
 
 /// Every outcome that a run has to reach.
 pub fn due() -> Vec<Outcome> {
-    let mut due = vec![MarkComes, MarkHolds, MarkStays, HighMarkHolds, MarkHoldsRanging];
-    due.push(SetWithoutCountry);
+    let marks = [MarkComes, MarkHolds, MarkStays, HighMarkHolds, MarkHoldsRanging];
+    let mut due = [&marks[..], &[SetCountryUnknown]].concat();
     due.extend(Fault::ALL.map(NotStarted));
-    due.extend(KINDS.map(ServedWithoutProfile));
+    for fault in Fault::OF_SESSIONS.iter().copied() {
+        due.extend([false, true].map(|advertisement| ForgedProfile { fault, advertisement }));
+    }
+    due.extend((0..16).flat_map(of_set));
+    due.extend(of_refusals());
+    due.extend(of_kinds());
+    due.extend(of_settings());
+    due
+}
+
+/// With each set as the profile's, as what was ranging, and as what was given, set and stopped.
+fn of_set(set: u16) -> Vec<Outcome> {
+    let mut due = vec![Given(set), Set(set)];
+    due.extend((0..3).map(|replies| Started { set, replies }));
+    if set & 2 == 0 {
+        due.push(Stopped(set));
+    }
+    // CS never ranges, and there is a mark only while UWB does not.
+    for (mark, never) in [(false, 2), (true, 3)] {
+        if set & never == 0 {
+            due.extend(KINDS.map(|kind| Accepted {
+                kind,
+                ranging: set,
+                mark,
+            }));
+        }
+    }
+    due
+}
+
+/// Messages that the reader refuses, and those that are not for a tag.
+fn of_refusals() -> Vec<Outcome> {
+    let mut due: Vec<Outcome> = [1, 3, 7]
+        .into_iter()
+        .flat_map(|id| [NotForTag(id), NotForTagWithoutRoom(id)])
+        .collect();
     for number in 1..10 {
         due.extend([false, true].map(|busy| Refused { number, busy }));
     }
-    due.extend([1, 3, 7].map(NotForTag));
-    due.extend([1, 3, 7].map(NotForTagWithoutRoom));
-    for room in [NoRoom, OneShort, ExactRoom, MoreRoom] {
-        due.extend(KINDS.map(room));
+    due
+}
+
+/// By the kind of call: the room for its reply, what it did, and what became of the mark.
+fn of_kinds() -> Vec<Outcome> {
+    let mut due = Vec::new();
+    for of_kind in [ServedWithoutProfile, NoRoom, OneShort, ExactRoom, MoreRoom] {
+        due.extend(KINDS.map(of_kind));
     }
-    due.extend([Configuration, Stop].map(NoRoomNeeded));
+    for kind in [Configuration, Stop] {
+        due.push(NoRoomNeeded(kind));
+        due.extend((0..3).map(|replies| Done { kind, replies }));
+    }
     due.extend([false, true].map(|mark| UwbWasNotRanging { mark }));
-    for kind in [Request, Advertisement] {
-        due.extend([
-            MarkGoes(kind),
-            MarkStaysWithoutRoom(kind),
-            SetAgainAfter(kind),
-            HighMarkGoes(kind),
-        ]);
+    for of_kind in [MarkGoes, MarkStaysWithoutRoom, SetAgainAfter, HighMarkGoes] {
+        due.extend([Request, Advertisement].map(of_kind));
     }
-    for set in 0..16 {
-        due.extend((0..3).map(|replies| Started { set, replies }));
-        due.extend([Given(set), Set(set)]);
-        if set & 2 == 0 {
-            due.push(Stopped(set));
-            due.extend(KINDS.map(|kind| Accepted {
-                kind,
-                ranging: set,
-                mark: false,
-            }));
-        }
-        if set & 3 == 0 {
-            due.extend(KINDS.map(|kind| Accepted {
-                kind,
-                ranging: set,
-                mark: true,
-            }));
-        }
-    }
-    for replies in 0..3 {
-        due.extend([Configuration, Stop].map(|kind| Done { kind, replies }));
-    }
+    due
+}
+
+/// By the technology: settings that do not lie within the profile, new, old and idle ones.
+fn of_settings() -> Vec<Outcome> {
+    let mut due: Vec<Outcome> = (0..4).map(NamedOutsideProfile).collect();
     for rule in Rule::ALL {
         due.push(Unfit { rule, ranging: false });
         // CS never ranges.
@@ -153,21 +174,17 @@ pub fn due() -> Vec<Outcome> {
             due.push(Unfit { rule, ranging: true });
         }
     }
-    due.extend((0..4).map(NamedOutsideProfile));
-    for technology in RANGING {
-        due.push(NewSettings(technology));
-        // RSSI's settings always lie within the profile.
-        if technology != 3 {
-            due.push(OldSettings(technology));
-        }
-        due.extend([HighFlagStopped(technology), StoppedOutsideProfile(technology)]);
-        due.extend([IdleSettingsLeft(technology), IdleSettingsReplaced(technology)]);
-    }
-    for fault in Fault::OF_SESSIONS {
-        due.extend([false, true].map(|advertisement| ForgedProfile {
-            fault: *fault,
-            advertisement,
-        }));
+    // RSSI's settings always lie within the profile.
+    due.extend([0, 2].map(OldSettings));
+    let any = [
+        NewSettings,
+        HighFlagStopped,
+        StoppedOutsideProfile,
+        IdleSettingsLeft,
+        IdleSettingsReplaced,
+    ];
+    for of_technology in any {
+        due.extend(RANGING.map(of_technology));
     }
     due
 }

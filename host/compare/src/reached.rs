@@ -215,7 +215,7 @@ impl Reached {
         let (before, after, set) = (step.before, step.after, step.answer.set.0);
         self.count(Set(set));
         if has(set, 0) && after.uwb.settings.country == *b"00" {
-            self.count(SetWithoutCountry);
+            self.count(SetCountryUnknown);
         }
         for technology in (0..4).filter(|t| has(step.named(), *t)) {
             let ranging = flag(before, technology) != 0;

@@ -15,8 +15,8 @@ pub(crate) fn is_key_length(length: u8) -> bool {
 }
 
 /// Two letters, or 00 for a country that is not known.
-pub(crate) fn is_country(letters: [u8; 2]) -> bool {
-    letters == *b"00" || (letters[0].is_ascii_uppercase() && letters[1].is_ascii_uppercase())
+pub(crate) fn is_country(country: [u8; 2]) -> bool {
+    country == *b"00" || (country[0].is_ascii_uppercase() && country[1].is_ascii_uppercase())
 }
 
 pub(crate) fn is_uwb_role(role: u8) -> bool {
