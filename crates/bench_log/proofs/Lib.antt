@@ -1,6 +1,7 @@
+pub mod Items
 pub mod Decimals
 pub mod Entries
 pub mod Lines
-pub mod Lists
 pub mod Counting
+pub mod Records
 pub mod Whole

@@ -1,4 +1,5 @@
 pub mod LogRecord
+pub mod Items
 pub mod Totals
 pub mod Text
 pub mod Listing

@@ -1,16 +1,16 @@
 -- The listing of a log: a line for each record, and the last line.
-use Prim.Native.Nat.{ℕ, zero, suc, _+_, _*_, _/_, _%_, _<_, min}
+use Prim.Native.Nat.{ℕ, _*_, _/_, _%_, _<_, min}
 use Prim.Native.String.{String}
 use mathlib.Core.Path.{_≡_}
-use mathlib.Core.List.{List, [], _∷_, _++_}
+use mathlib.Core.List.{List, _++_}
 use mathlib.Core.Bool.{cond}
 use lib.Dec.{eqb}
 use lib.ListN.{length, take, drop}
-use Rattle.codec.specs.Octets.{part}
 use Rattle.codec.specs.Writing.{fitting, LaysOut}
 use Rattle.codec.specs.declared.records.Written.{Written}
-use Rattle.bench_log.specs.LogRecord.{recordSize, entryOf}
-use Rattle.bench_log.specs.Totals.{totals, counted, count}
+use Rattle.bench_log.specs.LogRecord.{recordSize, recordsIn, wholeRecords, entryOf}
+use Rattle.bench_log.specs.Totals.{totals, counted}
+use Rattle.bench_log.specs.Items.{textsFrom, Tells}
 use Rattle.bench_log.specs.Text.{ascii, decimal}
 use Rattle.bench_log.specs.declared.entry.Entry.{Entry}
 use Rattle.bench_log.specs.declared.totals.Totals.{Totals}
@@ -44,28 +44,17 @@ lastLine t tail =
 
 -- ---- of a whole log
 
--- the first n records, in order
-abbrev pub recordsIn : ℕ → List ℕ → List (List ℕ)
-recordsIn zero log = []
-recordsIn (suc n) log = recordsIn n log ++ (part (n * recordSize) recordSize log ∷ [])
-
-abbrev pub wholeRecords : List ℕ → List (List ℕ)
-wholeRecords log = recordsIn (length log / recordSize) log
-
--- records with numbers from n on
-abbrev pub linesFrom : ℕ → List (List ℕ) → List ℕ
-linesFrom n [] = []
-linesFrom n (r ∷ rs) = line n (entryOf r) ++ linesFrom (n + 1) rs
-
 abbrev pub listing : List ℕ → List ℕ
-listing log = linesFrom 0 (wholeRecords log) ++ lastLine (totals (wholeRecords log)) (length log % recordSize)
+listing log = textsFrom (λ n r. line n (entryOf r)) 0 (wholeRecords log) ++ lastLine (totals (wholeRecords log)) (length log % recordSize)
 
 -- ---- piece by piece
 
--- the lines of records that come after those that are counted
-abbrev pub linesAfter : Totals → List (List ℕ) → List ℕ
-linesAfter t [] = []
-linesAfter t (r ∷ rs) = line (t .records) (entryOf r) ++ linesAfter (counted t (entryOf r)) rs
+-- the line of the record that comes after those that are counted, and the totals with it
+abbrev pub nextLine : Totals → List ℕ → List ℕ
+nextLine t r = line (t .records) (entryOf r)
+
+abbrev pub nextTotals : Totals → List ℕ → Totals
+nextTotals t r = counted t (entryOf r)
 
 -- no line is longer
 abbrev pub lineLimit : ℕ
@@ -75,19 +64,14 @@ lineLimit = 35
 abbrev pub listable : List ℕ → List ℕ → ℕ
 listable piece d = min (length piece / recordSize) (length d / lineLimit)
 
-abbrev pub taken : List ℕ → List ℕ → List (List ℕ)
-taken piece d = recordsIn (listable piece d) piece
-
--- what listing a piece does: the totals afterwards, how many octets of the buffer are lines, and the buffer before and after
-pub record Lists (piece : List ℕ) (t : Totals) (d : List ℕ) (r : Listed) (e : List ℕ) : Type 0 where
-  pub counts : r .totals ≡ count t (taken piece d)
-  pub octets : r .length ≡ length (linesAfter t (taken piece d))
-  pub leaves : e ≡ linesAfter t (taken piece d) ++ drop (length (linesAfter t (taken piece d))) d
+-- what listing a piece does
+abbrev pub Lists : List ℕ → Totals → List ℕ → Listed → List ℕ → Type 0
+Lists piece t d r e = Tells nextLine nextTotals (recordsIn (listable piece d) piece) t d (r .totals) (r .length) e
 
 -- Calls that list what is left of a log, from some totals on, and what they lay out, in order: `list` on any piece of it, and
 -- then calls on what that left; or, where less than a record is left, `last_line` in a buffer that has room for it.
 pub data Run : Totals → List ℕ → List ℕ → Type 0 where
-  piece : {t : Totals} {p text d e : List ℕ} {r : Listed} (rest : List ℕ) → Lists p t d r e
+  piece : {t : Totals} {text d e : List ℕ} (p rest : List ℕ) (r : Listed) → Lists p t d r e
       → Run (r .totals) (drop (listable p d * recordSize) p ++ rest) text → Run t (p ++ rest) (take (r .length) e ++ text)
   end : {t : Totals} {tail d e : List ℕ} {a : Written} → length tail < recordSize → LaysOut (fitting (lastLine t (length tail)) (length d)) d a e
       → a .refusal ≡ 0 → Run t tail (take (a .length) e)

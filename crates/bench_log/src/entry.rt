@@ -1,12 +1,8 @@
-// Log records: their layout, and what an entry says of one.
+// Entries: what is listed of a log record.
+use crate::layout::take_apart;
 use codec::MESSAGE_LIMIT;
-use codec::refusal::BROKEN_RECORD;
 ghost use mathlib.Core.Path.{_≡_};
-ghost use Prim.Native.Nat.{_+_, _*_};
-ghost use Rattle.bench_log.specs.LogRecord.{keepsLayout, entryOf};
-
-// A record is a head of four octets and room for the longest message.
-pub const RECORD_SIZE: usize = 4 + MESSAGE_LIMIT;
+ghost use Rattle.bench_log.specs.LogRecord.{entryOf};
 
 // What is listed of a record: its direction, and its message's ID and set; or the number of its refusal, with ID and set 0.
 pub struct Entry {
@@ -16,49 +12,25 @@ pub struct Entry {
     pub set: u16,
 }
 
-fn joined(low: u8, high: u8) -> usize
-    ensures { λ r. ⌜ r ≡ low + 256 * high ⌝ }
-{
-    low as usize + 256 * high as usize
-}
-
-fn keeps_layout(octets: &[u8]) -> bool
-    ensures { λ r. ⌜ r ≡ keepsLayout (now (octets .entry)) ⌝ }
-{
-    if octets.len() != RECORD_SIZE {
-        return false;
-    }
-    if 2 <= octets[0] {
-        return false;
-    }
-    if octets[1] != 0 {
-        return false;
-    }
-    let length = joined(octets[2], octets[3]);
-    if MESSAGE_LIMIT < length {
-        return false;
-    }
-    codec::all_zero(&octets[4 + length..])
-}
-
 // What an entry says of a record's octets. Those that are no record's break the layout.
 pub fn entry_of(octets: &[u8]) -> Entry
     ensures { λ r. ⌜ r ≡ entryOf (now (octets .entry)) ⌝ }
 {
-    if !keeps_layout(octets) {
+    let parts = take_apart(octets, MESSAGE_LIMIT);
+    if parts.refusal != 0 {
         return Entry {
             direction: 0,
-            refusal: BROKEN_RECORD,
+            refusal: parts.refusal,
             id: 0,
             set: 0,
         };
     }
-    let end = 4 + joined(octets[2], octets[3]);
-    let reading = codec::read(&octets[4..end]);
+    let end = 4 + parts.length;
+    let heard = codec::hear(&octets[4..end]);
     Entry {
-        direction: octets[0],
-        refusal: reading.refusal,
-        id: reading.value.id,
-        set: reading.value.set,
+        direction: parts.direction,
+        refusal: heard.refusal,
+        id: heard.id,
+        set: heard.set,
     }
 }

@@ -1,12 +1,15 @@
 // Bench logs: what their records say, the totals, and the text of the listing.
 mod entry;
+mod layout;
 mod listing;
 mod text;
 mod totals;
 
 pub use entry::Entry;
-pub use entry::RECORD_SIZE;
 pub use entry::entry_of;
+pub use layout::Parts;
+pub use layout::RECORD_SIZE;
+pub use layout::take_apart;
 pub use listing::LINE_LIMIT;
 pub use listing::Listed;
 pub use listing::last_line;

@@ -1,7 +1,7 @@
 // The listing: lines of records and the last line, laid out in a lent buffer.
 use crate::entry::Entry;
-use crate::entry::RECORD_SIZE;
 use crate::entry::entry_of;
+use crate::layout::RECORD_SIZE;
 use crate::text::decimal_length;
 use crate::text::put;
 use crate::text::put_decimal;

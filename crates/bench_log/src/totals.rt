@@ -1,7 +1,8 @@
 // Totals: how many records were counted, and how many of them accepted and refused.
 use crate::entry::Entry;
 ghost use mathlib.Core.Path.{_≡_};
-ghost use Rattle.bench_log.specs.Totals.{oneMore, counted};
+ghost use Rattle.bench_log.specs.Items.{oneMore};
+ghost use Rattle.bench_log.specs.Totals.{counted};
 
 // The counters start again from 0 after 2^64 - 1.
 pub struct Totals {

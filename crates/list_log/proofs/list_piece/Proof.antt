@@ -1,4 +1,3 @@
-use Rattle.bench_log.proofs.Lists.{lists-within}
 use lib.Seq.{length-take-le}
 use mathlib.Core.Path.{sym}
 use borrow.Author.Needs.{needs}
@@ -8,18 +7,17 @@ use Rattle.list_log.proofs.list_piece.Tie as tie
 slice-aggregate-list : tie.Need-slice-aggregate-list
 slice-aggregate-list c = sym (length-take-le _ _ (c .before .before .before .read-piece .ensures))
 
-write-text-requires : tie.Need-write-text-requires
-write-text-requires c κs = lists-within (c .before .before .before .before .list .ensures)
-
 pub list-piece-spec : {M : Type 1} → statement M
 list-piece-spec =
     tie.close
     (tie.spec
     (search needs)
     (search needs)
+    (search needs)
     slice-aggregate-list
     (search needs)
-    write-text-requires
+    (search needs)
+    (search needs)
     (search needs)
     (search needs)
     (search needs)

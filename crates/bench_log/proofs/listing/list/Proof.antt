@@ -1,12 +1,15 @@
-use Rattle.bench_log.proofs.Lists.{ListedSoFar, none-listed, one-listed, all-listed}
+use Rattle.bench_log.specs.LogRecord.{recordsIn}
+use Rattle.bench_log.specs.Listing.{lineLimit, nextLine, nextTotals}
+use Rattle.bench_log.proofs.Items.{SoFar, none-told}
+use Rattle.bench_log.proofs.Lines.{one-listed, all-listed}
 use native.Mathlib.Omega.{arith}
-use Prim.Native.Nat.{_-_, _≤_}
+use Prim.Native.Nat.{_-_, _*_, _≤_}
 use borrow.Author.Needs.{needs}
 use Rattle.bench_log.proofs.listing.list.Statement.{statement}
 use Rattle.bench_log.proofs.listing.list.Tie as tie
 
 abbrev Inv-loop : tie.InvT-loop
-Inv-loop piece out₀ count totals₀ length₀ i₀ out totals length i = (i ≤ count) × ListedSoFar piece totals₀ out₀ i totals out length
+Inv-loop piece out₀ count totals₀ length₀ i₀ out totals length i = (i ≤ count) × (length ≤ i * lineLimit) × SoFar nextLine nextTotals (recordsIn i piece) totals₀ out₀ totals out length
 
 abbrev μ-loop : tie.MeasureT-loop
 μ-loop piece out₀ count totals₀ length₀ i₀ out totals length i = count - i
@@ -15,7 +18,7 @@ least-requires : tie.Need-least-requires Inv-loop μ-loop
 least-requires c κs = search needs
 
 loop-holds : tie.Need-loop-holds Inv-loop μ-loop
-loop-holds c = (omega arith, none-listed _ _ _)
+loop-holds c = (omega arith, omega arith, none-told _ _ _ _)
 
 mul-at : tie.Need-mul-at Inv-loop μ-loop
 mul-at c = search needs
@@ -48,13 +51,13 @@ loop-less : tie.Need-loop-less Inv-loop μ-loop
 loop-less c = search needs
 
 loop-again : tie.Need-loop-again Inv-loop μ-loop
-loop-again c = (omega arith, one-listed _ (c .before .before .before .before .before .before .before .before .loop .inv .1) (c .before .before .before .before .before .entry-of .ensures) (c .counted .ensures) (c .before .before .before .put-line .ensures))
+loop-again c = (omega arith, omega (arith, c .before .before .before .put-line .ensures .1), one-listed (c .before .before .before .before .before .before .before .before .before .before .before .before .args .piece .now) (c .before .before .before .before .before .before .before .before .loop .i) _ (c .before .before .before .before .before .before .before .before .loop .inv .2) (c .before .before .before .before .before .entry-of .ensures) (c .counted .ensures) (c .before .before .before .put-line .ensures .0))
 
 same-length : tie.Need-same-length Inv-loop μ-loop
 same-length c = search needs
 
 returns : tie.Need-returns Inv-loop μ-loop
-returns c = all-listed (omega (arith, c .before .before .least .ensures)) (c .before .loop .inv .1)
+returns c = all-listed (c .before .before .before .before .before .args .piece .now) (c .before .loop .i) (omega (arith, c .before .before .least .ensures)) (c .before .loop .inv .2)
 
 pub list-spec : {M : Type 1} → statement M
 list-spec =

@@ -2,14 +2,17 @@ use lib.ListN.{length}
 use mathlib.Core.Path.{_≡_}
 use Prim.Native.Nat.{_-_, _≤_}
 use borrow.Author.Needs.{needs}
-use Rattle.list_log.proofs.read_piece.Statement.{statement}
-use Rattle.list_log.proofs.read_piece.Tie as tie
+use Rattle.log_io.proofs.read_piece.Statement.{statement}
+use Rattle.log_io.proofs.read_piece.Tie as tie
 
 abbrev Inv-loop : tie.InvT-loop
-Inv-loop piece₀ at₀ piece at = (at ≤ length piece) × (length piece ≡ length piece₀)
+Inv-loop file piece₀ failure at₀ piece at = (at ≤ length piece) × (length piece ≡ length piece₀)
 
 abbrev μ-loop : tie.MeasureT-loop
-μ-loop piece₀ at₀ piece at = length piece - at
+μ-loop file piece₀ failure at₀ piece at = length piece - at
+
+returns : tie.Need-returns Inv-loop μ-loop
+returns c = search needs
 
 loop-holds : tie.Need-loop-holds Inv-loop μ-loop
 loop-holds c = search needs
@@ -32,8 +35,8 @@ read-failed-requires c κs = search needs
 same-length : tie.Need-same-length Inv-loop μ-loop
 same-length c = search needs
 
-returns : tie.Need-returns Inv-loop μ-loop
-returns c = search needs
+returns-2 : tie.Need-returns-2 Inv-loop μ-loop
+returns-2 c = search needs
 
 sub-count : tie.Need-sub-count Inv-loop μ-loop
 sub-count c = search needs
@@ -50,8 +53,8 @@ count-requires c κs = search needs
 same-length-2 : tie.Need-same-length-2 Inv-loop μ-loop
 same-length-2 c = search needs
 
-returns-2 : tie.Need-returns-2 Inv-loop μ-loop
-returns-2 c = search needs
+returns-3 : tie.Need-returns-3 Inv-loop μ-loop
+returns-3 c = search needs
 
 add-at : tie.Need-add-at Inv-loop μ-loop
 add-at c = search needs
@@ -65,8 +68,8 @@ loop-again c = search needs
 same-length-3 : tie.Need-same-length-3 Inv-loop μ-loop
 same-length-3 c = search needs
 
-returns-3 : tie.Need-returns-3 Inv-loop μ-loop
-returns-3 c = search needs
+returns-4 : tie.Need-returns-4 Inv-loop μ-loop
+returns-4 c = search needs
 
 pub read-piece-spec : {M : Type 1} → statement M
 read-piece-spec =
@@ -74,6 +77,7 @@ read-piece-spec =
     (tie.spec
     Inv-loop
     μ-loop
+    returns
     loop-holds
     sub-read
     part-read-start
@@ -81,15 +85,15 @@ read-piece-spec =
     read-requires
     read-failed-requires
     same-length
-    returns
+    returns-2
     sub-count
     part-count-start
     part-count-end
     count-requires
     same-length-2
-    returns-2
+    returns-3
     add-at
     loop-less
     loop-again
     same-length-3
-    returns-3)
+    returns-4)
