@@ -1,4 +1,9 @@
 pub mod Items
+pub mod Same
+pub mod Slots
+pub mod Aligned
+pub mod Shown
+pub mod Readings
 pub mod Decimals
 pub mod Entries
 pub mod Lines

@@ -3,3 +3,5 @@ pub mod Items
 pub mod Totals
 pub mod Text
 pub mod Listing
+pub mod Fields
+pub mod Comparison

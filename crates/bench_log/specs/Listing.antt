@@ -30,8 +30,12 @@ field word n = ascii word ++ decimal n
 abbrev pub verdict : Entry → List ℕ
 verdict e = cond (eqb (e .refusal) 0) (decimal (e .id) ++ field " " (e .set)) (field "refused " (e .refusal))
 
+-- what a line says after the number
+abbrev pub entryText : Entry → List ℕ
+entryText e = letter (e .direction) ++ (verdict e ++ ascii "\n")
+
 unfoldable pub line : ℕ → Entry → List ℕ
-line n e = decimal n ++ (letter (e .direction) ++ (verdict e ++ ascii "\n"))
+line n e = decimal n ++ entryText e
 
 -- `tail` is the number of octets of a partial last record
 unfoldable pub lastLine : Totals → ℕ → List ℕ

@@ -1,4 +1,4 @@
--- Text: ASCII, and numbers in decimal.
+-- Text: ASCII, numbers in decimal, octets in hexadecimal.
 use Prim.Native.Nat.{ℕ, zero, suc, _+_, _-_, _*_, _/_, _%_, _≤_, _<_}
 use Prim.Native.Char.{code}
 use Prim.Native.String.{String}
@@ -33,3 +33,11 @@ pub record Numeral (n : ℕ) (ds : List ℕ) : Type 0 where
   pub some : 0 < length ds
   pub leading : getD ds 0 0 ≡ 48 → ds ≡ 48 ∷ []
   pub value : valueAfter 0 ds ≡ n
+
+-- two digits for each octet, the higher first
+abbrev pub hexDigit : ℕ → ℕ
+hexDigit n = cond (ltb n 10) (48 + n) (55 + n)
+
+abbrev pub hexadecimal : List ℕ → List ℕ
+hexadecimal [] = []
+hexadecimal (x ∷ s) = hexDigit (x / 16) ∷ (hexDigit (x % 16) ∷ hexadecimal s)

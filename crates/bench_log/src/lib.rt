@@ -1,10 +1,14 @@
 // Bench logs: what their records say, the totals, and the text of the listing.
+mod comparison;
 mod entry;
 mod layout;
 mod listing;
 mod text;
 mod totals;
 
+pub use comparison::Compared;
+pub use comparison::Kinds;
+pub use comparison::Side;
 pub use entry::Entry;
 pub use entry::entry_of;
 pub use layout::Parts;

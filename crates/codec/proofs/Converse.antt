@@ -25,10 +25,10 @@ use Rattle.codec.specs.NormalForm.{block, rising, columnBlocks, normal, 
 use Rattle.codec.specs.declared.records.Record.{Record}
 use Rattle.codec.proofs.Laws.{two-head}
 use Rattle.codec.proofs.Outcomes.{by-bool}
-use Rattle.codec.proofs.Bits.{bit-under}
 use Rattle.codec.proofs.Layouts.{need-from}
 use Rattle.codec.proofs.Fields.{octets-left, octets-right, typed-zeroes, zeroed-zeroes, forth}
-use Rattle.codec.proofs.Counting.{count-under, all-there}
+use Rattle.codec.proofs.Bits.{bit-under}
+use Rattle.codec.proofs.Counting.{has-some, all-named}
 use Rattle.codec.proofs.Every.{Among, first, further, each-at}
 use Rattle.codec.proofs.Cells.{cell-fits, layout-of, cell-here, technology-below}
 use Rattle.codec.proofs.Risings.{Ascending, ascending}
@@ -50,10 +50,6 @@ each-both P Q (b ∷ blocks) h k = ((h .0, k .0), each-both P Q blocks (h .1) (k
 has-above : (k id : ℕ) (blocks : List (List ℕ)) → Each (λ c. k < getD c 0 0) blocks → Has id blocks → k < id
 has-above k id (b ∷ blocks) h (this e) = omega (arith, h .0)
 has-above k id (b ∷ blocks) h (later r) = has-above k id blocks (h .1) r
-
-has-some : (id : ℕ) (blocks : List (List ℕ)) → Has id blocks → 0 < length blocks
-has-some id (b ∷ blocks) (this e) = omega arith
-has-some id (b ∷ blocks) (later h) = omega arith
 
 -- the first of rising blocks has the lowest ID
 has-first : (id : ℕ) (b : List ℕ) (blocks : List (List ℕ)) → Each (λ c. getD b 0 0 < getD c 0 0) blocks → id ≤ getD b 0 0 → Has id (b ∷ blocks) → getD b 0 0 ≡ id
@@ -103,15 +99,6 @@ module _ (k : Column) (set : ℕ) where
       (λ y. rw y (block-valid t b (eqb-true _ _ y) (o .0) (w .0)))
       (λ n. rw n (there-valid t blocks (o .1) (w .1) (has-later (technologyId t) b blocks (λ e. true≢false (sym (eq-eqb (getD b 0 0) (technologyId t) e) ∙ n)) h)))
 
-  -- as many blocks as the set has bits: each of these has one
-  module _ (small : set < 65536) (blocks : List (List ℕ)) (w : Each (Whole (layouts k) set) blocks) (once : Once blocks) (n : length blocks ≡ ones set) where
-    named : (blocks : List (List ℕ)) → Each (Whole (layouts k) set) blocks → Each (λ b. bit set (getD b 0 0) ≡ true) blocks × Each (λ b. getD b 0 0 < 16) blocks
-    named [] w = (tt, tt)
-    named (b ∷ blocks) w = let r = named blocks (w .1) in ((w .0 .named, r .0), (bit-under 16 set small (getD b 0 0) (w .0 .named), r .1))
-
-    has : (t : Technology) → names set t ≡ true → Has (technologyId t) blocks
-    has t m = let h = named blocks w in all-there 16 (bit set) blocks (h .0) (h .1) once (n ∙ count-under 16 set small) (technologyId t) (omega (arith, technology-below t)) m
-
 -- ---- the record of an accepted message is valid
 
 each-octets : (blocks : List (List ℕ)) → Octets (flatten blocks) → Each Octets blocks
@@ -132,7 +119,7 @@ module _ (m : List ℕ) (o : Octets m) (r : Record) (f : WellFormed m r) where
     column-whole = subst (λ (c : Option Column). Each (Whole (layoutsOf c) (f .set)) (f .blocks)) (column-there (f .id) k y) (f .whole)
 
     column-has : (t : Technology) → names (f .set) t ≡ true → Has (technologyId t) (f .blocks)
-    column-has = has k (f .set) (small m o r f) (f .blocks) column-whole (f .once) (f .count ∙ ap (λ (c : Option Column). blockCount c (f .set)) (column-there (f .id) k y))
+    column-has t = all-named (layouts k) (f .set) (small m o r f) (f .blocks) column-whole (f .once) (f .count ∙ ap (λ (c : Option Column). blockCount c (f .set)) (column-there (f .id) k y)) (technologyId t)
 
   abbrev content : Record
   content = recordOf (f .id) (f .set) (f .blocks)

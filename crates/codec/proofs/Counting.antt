@@ -13,8 +13,10 @@ use lib.Pow.{shr-shr}
 use lib.Count.{ones, ones-step}
 use borrow.Author.Tests.{eqb-true, eq-eqb, ne-eqb}
 use Rattle.codec.specs.Technology.{bit}
-use Rattle.codec.specs.WellFormed.{Each, Once, Has, this, later}
+use Rattle.codec.specs.Layout.{Layout}
+use Rattle.codec.specs.WellFormed.{Whole, Each, Once, Has, this, later}
 use Rattle.codec.proofs.Outcomes.{by-bool}
+use Rattle.codec.proofs.Bits.{bit-under}
 
 abbrev pub one : Bool → ℕ
 one true = 1
@@ -86,6 +88,10 @@ count-none (suc k) lo may e j a b =
 
 -- ---- the block of an ID
 
+pub has-some : (id : ℕ) (blocks : List (List ℕ)) → Has id blocks → 0 < length blocks
+has-some id (b ∷ blocks) (this e) = omega arith
+has-some id (b ∷ blocks) (later h) = omega arith
+
 each-without : (old : ℕ) (may : ℕ → Bool) (blocks : List (List ℕ)) → Each (λ c. getD c 0 0 ≡ old → ⊥) blocks → Each (λ b. may (getD b 0 0) ≡ true) blocks
     → Each (λ b. without old may (getD b 0 0) ≡ true) blocks
 each-without old may [] n h = tt
@@ -101,3 +107,12 @@ all-there k may (b ∷ blocks) h u o e id l m =
     (λ n.
     let c = count-without k 0 (getD b 0 0) may (omega arith) (omega (arith, u .0)) (h .0) in
     later (all-there k (without (getD b 0 0) may) blocks (each-without (getD b 0 0) may blocks (o .0) (h .1)) (u .1) (o .1) (omega (arith, c)) id l (rw (n, m))))
+
+-- as many whole blocks as the set has bits, no ID twice: each bit has one
+module _ (layouts : ℕ → Layout) (set : ℕ) (small : set < 65536) where
+  each-named : (blocks : List (List ℕ)) → Each (Whole layouts set) blocks → Each (λ b. bit set (getD b 0 0) ≡ true) blocks × Each (λ b. getD b 0 0 < 16) blocks
+  each-named [] w = (tt, tt)
+  each-named (b ∷ blocks) w = let r = each-named blocks (w .1) in ((w .0 .named, r .0), (bit-under 16 set small (getD b 0 0) (w .0 .named), r .1))
+
+  pub all-named : (blocks : List (List ℕ)) → Each (Whole layouts set) blocks → Once blocks → length blocks ≡ ones set → (id : ℕ) → bit set id ≡ true → Has id blocks
+  all-named blocks w once n id m = let h = each-named blocks w in all-there 16 (bit set) blocks (h .0) (h .1) once (n ∙ count-under 16 set small) id (bit-under 16 set small id m) m

@@ -68,7 +68,7 @@ reads-back r typed ok = exact (normal r) (normal-octets r typed ok) r .1 (normal
 -- ---- and the record of an accepted message is valid, and written as the message exactly if that is in normal form
 
 module _ (m : List ℕ) (o : Octets m) (r : Record) (h : answer (reading m) ≡ accepted r) where
-  accepted-valid : TypedRecord r × (valid r ≡ true)
+  pub accepted-valid : TypedRecord r × (valid r ≡ true)
   accepted-valid = record-valid m o r (exact m o r .0 h)
 
   kept : (normal r ≡ m) ↔ NormalForm m

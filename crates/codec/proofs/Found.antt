@@ -16,14 +16,20 @@ use Rattle.codec.specs.Blocks.{Column, capabilities, configurations, cel
 use Rattle.codec.specs.Table.{messageLimit, assigned, readable, messageOf, row, blockCount, layoutsOf, setIn}
 use Rattle.codec.specs.Records.{make, response, settingsRecord, withoutBlocks, answer, accepted, refused}
 use Rattle.codec.specs.Message.{versionOf, idOf, setOf, setsAgree, blocksAt, blockAt, also, noId, blockFault, Walked, prepend, walk, endFault, blocksFrom, afterHead, body, parse, fieldsIn, recordOf, reading}
-use Rattle.codec.specs.WellFormed.{Whole, Each}
+use Rattle.codec.specs.WellFormed.{Whole, Each, Has, this, later}
 use Rattle.codec.specs.Inner.Places.{numberIn, Roomy, noPlace, noPlaces, note, noted, carriesBlocks, Judged, fieldsAt, columnAt, columnFound, recordAt, Located}
+use Rattle.codec.specs.Octets.{Octets}
+use Rattle.codec.proofs.Counting.{has-some, all-named}
 use Rattle.codec.proofs.Outcomes.{by-bool, by-number, and-true, or-false, demanded, chained}
 use Rattle.codec.proofs.Layouts.{sound-roomy, roomy-from, value-before, fields-there, no-fields}
 use Rattle.codec.proofs.Cells.{cell-fits, layout-of, technology-below}
 use Rattle.codec.proofs.Rows.{times-one, column-there, none-named}
 use Rattle.codec.proofs.WalkCases.{Sound, sound}
 use Rattle.codec.proofs.Walks.{walked}
+
+has-not : {id : ℕ} (b : List ℕ) (blocks : List (List ℕ)) → (getD b 0 0 ≡ id → ⊥) → (Has id blocks → ⊥) → Has id (b ∷ blocks) → ⊥
+has-not b blocks n h (this e) = n e
+has-not b blocks n h (later r) = h r
 
 module _ (k : Column) (set₀ : ℕ) (m : List ℕ) (t : Technology) where
   abbrev L : Layout
@@ -56,7 +62,7 @@ module _ (k : Column) (set₀ : ℕ) (m : List ℕ) (t : Technology) where
 
   -- where blocks that lie from a place on are noted: as before, if none is this technology's, or where its one block stands
   data Told (came : ℕ → Bool) (at : ℕ) (found : List ℕ) (blocks : List (List ℕ)) : Type 0 where
-    absent : getD (noted blocks at found) id 0 ≡ getD found id 0 → fieldsIn L id blocks ≡ zeroes L → Told came at found blocks
+    absent : getD (noted blocks at found) id 0 ≡ getD found id 0 → fieldsIn L id blocks ≡ zeroes L → (Has id blocks → ⊥) → Told came at found blocks
     present : {p : ℕ} → getD (noted blocks at found) id 0 ≡ p → came id ≡ false → Roomy L 2 (blockAt m p) → fieldsIn L id blocks ≡ value L 2 (blockAt m p) → Told came at found blocks
 
   told-next : (came : ℕ → Bool) (at : ℕ) (found : List ℕ) (blocks : List (List ℕ)) → length found ≡ 5 → Sound (layouts k) set₀ m came at
@@ -69,7 +75,7 @@ module _ (k : Column) (set₀ : ℕ) (m : List ℕ) (t : Technology) where
     where
       go : noted (blockAt m at ∷ blocks) at found ≡ noted blocks (at + getD m (at + 1) 0) (note (getD m at 0) at found)
           → Told (also (getD m at 0) came) (at + getD m (at + 1) 0) (note (getD m at 0) at found) blocks → Told came at found (blockAt m at ∷ blocks)
-      go same (absent e f) =
+      go same (absent e f h) =
           let p : getD (noted (blockAt m at ∷ blocks) at found) id 0 ≡ getD (note (getD m at 0) at found) id 0 = ap (λ (l : List ℕ). getD l id 0) same ∙ e in
           by-bool (eqb (getD m at 0) id)
           (λ y.
@@ -78,7 +84,7 @@ module _ (k : Column) (set₀ : ℕ) (m : List ℕ) (t : Technology) where
           present (p ∙ rw i (noted-same at found l)) (rw i at c) (roomy-here came at s i) (rw (s .first, y)))
           (λ n.
           let d = eqb-false _ _ n in
-          absent (p ∙ noted-other (getD m at 0) at found (λ q. d (sym q))) (rw (s .first, n) f))
+          absent (p ∙ noted-other (getD m at 0) at found (λ q. d (sym q))) (rw (s .first, n) f) (has-not _ blocks (λ q. d (sym (s .first) ∙ q)) h))
       go same (present e c h f) =
           let d = or-false (eqb id (getD m at 0)) (came id) c in
           let n : eqb (getD m at 0) id ≡ false = ne-eqb (getD m at 0) id (λ q. eqb-false id (getD m at 0) (d .0) (sym q)) in
@@ -88,7 +94,7 @@ module _ (k : Column) (set₀ : ℕ) (m : List ℕ) (t : Technology) where
   unfolding walk
   told zero came at found w l e =
       let q : _≡_ {A = Walked} (record { blocks = []; end = at }) w = cc in
-      subst (λ (w : Walked). Told came at found (w .blocks)) q (absent (getD-set-other found 4 id at 0 (λ d. omega (arith, technology-below t))) refl)
+      subst (λ (w : Walked). Told came at found (w .blocks)) q (absent (getD-set-other found 4 id at 0 (λ d. omega (arith, technology-below t))) refl (λ h. omega (arith, has-some id [] h)))
   told (suc n) came at found w l e =
       chained (blockFault (layouts k) set₀ m came at) _ w e λ u a e₁.
       chained (walk (layouts k) set₀ m n (also (getD m at 0) came) (at + getD m (at + 1) 0)) _ w e₁ λ w₁ e₂ e₃.
@@ -97,20 +103,34 @@ module _ (k : Column) (set₀ : ℕ) (m : List ℕ) (t : Technology) where
       subst (λ (w : Walked). Told came at found (w .blocks)) q
       (told-next came at found (w₁ .blocks) l s (told n (also (getD m at 0) came) (at + getD m (at + 1) 0) (note (getD m at 0) at found) w₁ (noted-length (getD m at 0) at found l) e₂))
 
-  block-there : (at : ℕ) → Roomy L 2 (blockAt m at) → fieldsAt L m at ≡ value L 2 (blockAt m at)
-  block-there at h =
-      let rest = drop (getD m (at + 1) 0) (drop at m) in
-      let e : blockAt m at ++ rest ≡ drop at m = take-append-drop (getD m (at + 1) 0) (drop at m) in
-      let q = value-before L 2 (blockAt m at) rest h in
-      fields-there L m at (subst (Roomy L 2) e (q .0)) ∙ ap (value L 2) (sym e) ∙ q .1
+  module _ (at : ℕ) (h : Roomy L 2 (blockAt m at)) where
+    abbrev rest : List ℕ
+    rest = drop (getD m (at + 1) 0) (drop at m)
+
+    whole : blockAt m at ++ rest ≡ drop at m
+    whole = take-append-drop (getD m (at + 1) 0) (drop at m)
+
+    roomy-there : Roomy L 2 (drop at m)
+    roomy-there = subst (Roomy L 2) whole (value-before L 2 (blockAt m at) rest h .0)
+
+    block-there : fieldsAt L m at ≡ value L 2 (blockAt m at)
+    block-there = fields-there L m at roomy-there ∙ ap (value L 2) (sym whole) ∙ value-before L 2 (blockAt m at) rest h .1
 
   kept : (blocks : List (List ℕ)) (at : ℕ) → length m < noPlace → Told noId at noPlaces blocks → fieldsAt L m (getD (noted blocks at noPlaces) id 0) ≡ fieldsIn L id blocks
-  kept blocks at h (absent f g) = rw (f ∙ getD-replicate 5 id noPlace 0 (omega (arith, technology-below t))) (no-fields L m noPlace (λ r. omega (arith, h, roomy-from L 2 (drop noPlace m) r, length-drop noPlace m)) ∙ sym g)
+  kept blocks at h (absent f g n) = rw (f ∙ getD-replicate 5 id noPlace 0 (omega (arith, technology-below t))) (no-fields L m noPlace (λ r. omega (arith, h, roomy-from L 2 (drop noPlace m) r, length-drop noPlace m)) ∙ sym g)
   kept blocks at h (present {p} f c s g) = rw f (block-there p s ∙ sym g)
 
   -- what the reader finds at the place that the walk kept
   pub keeps : (n at : ℕ) (w : Walked) → length m < noPlace → walk (layouts k) set₀ m n noId at ≡ accept w → fieldsAt L m (getD (noted (w .blocks) at noPlaces) id 0) ≡ fieldsIn L id (w .blocks)
   keeps n at w h e = kept (w .blocks) at h (told n noId at noPlaces w refl e)
+
+  held : (blocks : List (List ℕ)) (at : ℕ) → Told noId at noPlaces blocks → Has id blocks → Roomy L 2 (drop (getD (noted blocks at noPlaces) id 0) m)
+  held blocks at (absent f g n) h = absurd (n h)
+  held blocks at (present {p} f c s g) h = rw f (roomy-there p s)
+
+  -- and if a block has its ID, it is whole there
+  pub holds : (n at : ℕ) (w : Walked) → walk (layouts k) set₀ m n noId at ≡ accept w → Has id (w .blocks) → Roomy L 2 (drop (getD (noted (w .blocks) at noPlaces) id 0) m)
+  holds n at w e h = held (w .blocks) at (told n noId at noPlaces w refl e) h
 
 -- ---- an accepted message
 
@@ -196,6 +216,14 @@ module _ (m : List ℕ) (blocks : List (List ℕ)) (e : parse m ≡ accept block
     record-found : recordAt m found ≡ recordOf (idOf m) (setOf m) blocks
     record-found = λ i. record { id = idOf m; set = known (setOf m); capability = column-found capabilities i; configuration = column-found configurations i }
 
+    there : Octets m → (k : Column) → idOf m ≡ messageOf k → (t : Technology) → names (setOf m) t ≡ true → Roomy (cell k t) 2 (drop (getD found (technologyId t) 0) m)
+    there o k h t n =
+        let b = blockCount (some k) (setOf m) in
+        let w : Walked = record { blocks = blocks; end = p .end } in
+        let l = walked (layouts k) (setOf m) m b noId start w (p .sets) (walked-column k h) in
+        let i = all-named (layouts k) (setOf m) (omega (arith, o 2, o 3)) blocks (l .whole) (l .once) (l .count) (technologyId t) n in
+        rw (places k h) (holds k (setOf m) m t b start w (walked-column k h) i)
+
     reads : accepted (recordAt m found) ≡ answer (reading m)
     unfolding reading
     reads = rw e (ap accepted record-found)
@@ -205,6 +233,7 @@ located m {f} {found} j = record {
   number = j .number;
   four = λ z. by-number (parse m) (sym (j .number) ∙ z) λ blocks e. four m blocks e;
   reads = λ z. by-number (parse m) (sym (j .number) ∙ z) λ blocks e. reads m blocks e found (λ k. j .places k blocks e);
+  there = λ z. by-number (parse m) (sym (j .number) ∙ z) λ blocks e. there m blocks e found (λ k. j .places k blocks e);
 }
 
 pub reads-refused : (m : List ℕ) (f : ℕ) → f ≡ numberIn (parse m) → (f ≡ 0 → ⊥) → refused f ≡ answer (reading m)

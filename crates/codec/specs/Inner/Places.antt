@@ -6,8 +6,9 @@ use mathlib.Core.Option.{Option, none, some}
 use mathlib.Core.Bool.{Bool, true, false, _&&_, not, cond}
 use lib.Dec.{leb, ltb, eqb}
 use lib.ListN.{length, getD, set, drop, replicate}
+use Rattle.codec.specs.Octets.{Octets}
 use Rattle.codec.specs.Refusal.{Checked, refuse, accept, demand, numberOf, tooLong, endsEarly, reservedId, wrongBlock, blockTooSmall}
-use Rattle.codec.specs.Technology.{Technology, uwb, cs, nan, rssi, technologyId, technologies, bit, known}
+use Rattle.codec.specs.Technology.{Technology, uwb, cs, nan, rssi, technologyId, technologies, bit, known, names}
 use Rattle.codec.specs.Layout.{Layout, number, octets, counted, Values, zeroes, value, least, fault}
 use Rattle.codec.specs.Blocks.{Column, capabilities, configurations, cell}
 use Rattle.codec.specs.Table.{messageLimit, assigned, messageOf, Row}
@@ -134,11 +135,14 @@ recordAt m found = record {
   configuration = columnFound m found configurations;
 }
 
--- what is found in a message: the number of its first fault, or 0 and places that give its record
+-- what is found in a message: the number of its first fault, or 0 and places that give its record, where each technology that is named
+-- has a whole block
 pub record Located (m : List ℕ) (f : ℕ) (places : List ℕ) : Type 0 where
   pub number : f ≡ numberIn (parse m)
   pub four : f ≡ 0 → 4 ≤ length m
   pub reads : f ≡ 0 → accepted (recordAt m places) ≡ answer (reading m)
+  pub there : f ≡ 0 → Octets m → (k : Column) → idOf m ≡ messageOf k → (t : Technology) → names (setOf m) t ≡ true
+      → Roomy (cell k t) 2 (drop (getD places (technologyId t) 0) m)
 
 -- ---- what a tag hears of a message: refusal, ID and set, and the places of a Configuration's blocks
 

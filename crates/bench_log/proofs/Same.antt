@@ -1,0 +1,32 @@
+-- Two lists of octets are the same, and two contents are alike, exactly if they are equal.
+use Prim.Native.Nat.{ℕ}
+use mathlib.Core.Path.{_≡_, refl, ap, sym, _∙_}
+use mathlib.Core.List.{List, [], _∷_}
+use mathlib.Core.Bool.{Bool, true, false, true≢false}
+use lib.Dec.{eqb}
+use borrow.Author.Tests.{eqb-true, eq-eqb}
+use Rattle.codec.proofs.Outcomes.{and-true}
+use Rattle.bench_log.specs.Fields.{Contents, amount, string}
+use Rattle.bench_log.specs.Comparison.{same, alike}
+
+pub same-self : (x : List ℕ) → same x x ≡ true
+same-self [] = refl
+same-self (x ∷ xs) = rw (eq-eqb x x refl, same-self xs)
+
+pub same-equal : (x y : List ℕ) → same x y ≡ true → x ≡ y
+same-equal [] [] e = refl
+same-equal [] (y ∷ ys) e = absurd (true≢false (sym e))
+same-equal (x ∷ xs) [] e = absurd (true≢false (sym e))
+same-equal (x ∷ xs) (y ∷ ys) e =
+    let a = and-true (eqb x y) (same xs ys) e in
+    λ i. eqb-true x y (a .0) i ∷ same-equal xs ys (a .1) i
+
+pub alike-self : (x : Contents) → alike x x ≡ true
+alike-self (amount x) = eq-eqb x x refl
+alike-self (string x) = same-self x
+
+pub alike-equal : (x y : Contents) → alike x y ≡ true → x ≡ y
+alike-equal (amount x) (amount y) e = ap amount (eqb-true x y e)
+alike-equal (string x) (string y) e = ap string (same-equal x y e)
+alike-equal (amount x) (string y) e = absurd (true≢false (sym e))
+alike-equal (string x) (amount y) e = absurd (true≢false (sym e))
