@@ -190,6 +190,7 @@ module _ (a b : Record) where
     slots-right e = rw (e, column-right c)
 
     pub slots-meet : meets (slotsOf dl dr c) ≡ difference (ascii "direction") (amount dl) (amount dr) ++ (difference messageIdName (amount (a .id)) (amount (b .id)) ++ messageDifferences c)
+    unfolding difference
     slots-meet =
         ap (λ (ds : List Difference). difference (ascii "direction") (amount dl) (amount dr) ++ (difference messageIdName (amount (a .id)) (amount (b .id)) ++ ds))
         (presences-meet technologies (columnSlots c) ∙ rw (column-meets c))

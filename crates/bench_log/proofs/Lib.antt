@@ -1,9 +1,11 @@
 pub mod Items
-pub mod Same
+pub mod Equals
 pub mod Slots
 pub mod Aligned
 pub mod Shown
 pub mod Readings
+pub mod Differences
+pub mod Walking
 pub mod Decimals
 pub mod Entries
 pub mod Lines

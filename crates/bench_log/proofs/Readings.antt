@@ -31,7 +31,7 @@ use Rattle.bench_log.specs.Text.{ascii}
 use Rattle.bench_log.specs.LogRecord.{lengthIn, messageIn, keepsLayout, takenApart, readingOf, directionOf}
 use Rattle.bench_log.specs.Fields.{Contents, amount, string, prefix, messageIdName, presence}
 use Rattle.bench_log.specs.Comparison.{same, alike, Difference, difference, shown, normalFormOf, sameReading}
-use Rattle.bench_log.proofs.Same.{same-self, same-equal, alike-self, alike-equal}
+use Rattle.bench_log.proofs.Equals.{same-self, same-equal, alike-self, alike-equal}
 use Rattle.bench_log.proofs.Aligned.{blockDifferences, sectionDifferences, columnDifferences, presenceDifference, messageDifferences}
 use Rattle.bench_log.proofs.Shown.{shownFrom, directionDifference, headDifferences, shown-left, shown-right, shown-ids, shown-messages}
 
@@ -42,12 +42,14 @@ both-none [] es e = (refl, e)
 both-none (d ∷ ds) es e = absurd (nil≢cons (sym e))
 
 none-equal : (name : List ℕ) (l r : Contents) → difference name l r ≡ [] → l ≡ r
+unfolding difference
 none-equal name l r e = by-bool (alike l r) (alike-equal l r) (λ n. absurd (nil≢cons (sym (rw n at e))))
 
 one-none : (name : List ℕ) (l r : Contents) (ds : List Difference) → difference name l r ++ ds ≡ [] → (l ≡ r) × (ds ≡ [])
 one-none name l r ds e = let b = both-none (difference name l r) ds e in (none-equal name l r (b .0), b .1)
 
 equal-none : (name : List ℕ) (x : Contents) (ds : List Difference) → ds ≡ [] → difference name x x ++ ds ≡ []
+unfolding difference
 equal-none name x ds e = rw (alike-self x, e)
 
 each-none : (f : Technology → List Difference) (ts : List Technology) → flatten (map f ts) ≡ [] → Each (λ t. f t ≡ []) ts
@@ -124,7 +126,7 @@ module _ (a b : Record) (equal : a .set ≡ b .set) where
   column-equal (some k) e =
       let each : (t : Technology) → sectionDifferences a b k t ≡ [] = λ t. each-at (λ t. sectionDifferences a b k t ≡ []) t (each-none (sectionDifferences a b k) technologies e) (a-technology t) in
       let there : (t : Technology) → names (a .set) t ≡ true → write (cell k t) (ofRecord a k t) ≡ write (cell k t) (ofRecord b k t)
-          = λ t y. block-written (prefix t) (cell k t) (ofRecord a k t) (ofRecord b k t) (rw (y, ap (λ (s : ℕ). names s t) (sym equal) ∙ y) at (each t)) in
+      = λ t y. block-written (prefix t) (cell k t) (ofRecord a k t) (ofRecord b k t) (rw (y, ap (λ (s : ℕ). names s t) (sym equal) ∙ y) at (each t)) in
       rising-equal k (ofRecord a k) (ofRecord b k) (a .set) there technologies ∙ ap (λ (s : ℕ). rising k (ofRecord b k) s technologies) equal
 
   normal-equal : a .id ≡ b .id → columnDifferences a b (row (a .id) .column) ≡ [] → normal a ≡ normal b
@@ -149,6 +151,7 @@ column-self a none = refl
 column-self a (some k) = none-each (sectionDifferences a a k) (section-self a k) technologies
 
 message-self : (a : Record) (c : Option Column) → messageDifferences a a c ≡ []
+unfolding difference
 message-self a c =
     let here : (t : Technology) → presenceDifference a a t ≡ [] = λ t. rw (alike-self (presence (a .set) t .contents)) in
     rw (none-each (presenceDifference a a) here technologies, column-self a c)
@@ -170,6 +173,7 @@ abbrev Equal : ℕ → Checked Record → ℕ → Checked Record → Type 0
 Equal dl l dr r = (dl ≡ dr) × (normalFormOf l ≡ normalFormOf r) × (answer l .refusal ≡ answer r .refusal)
 
 none-shown : (dl dr : ℕ) (l r : Checked Record) → Sound l → Sound r → Equal dl l dr r → shownFrom dl l dr r ≡ []
+unfolding difference
 none-shown dl dr (refuse x) r s t e = shown-left dl dr x r ∙ rw (e .0, e .2) (rw (eq-eqb dr dr refl, eq-eqb (answer r .refusal) (answer r .refusal) refl))
 none-shown dl dr (accept a) (refuse y) s t e = absurd (no-zero y (sym (e .2)))
 none-shown dl dr (accept a) (accept b) s t e =

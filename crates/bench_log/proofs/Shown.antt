@@ -19,7 +19,7 @@ use Rattle.codec.proofs.Outcomes.{by-bool}
 use Rattle.bench_log.specs.Text.{ascii}
 use Rattle.bench_log.specs.Fields.{Contents, amount, string, FieldOf, prefix, blockFields, messageIdName, presence, fieldsIf, columnFields, messageFields, headFields, fieldsFrom}
 use Rattle.bench_log.specs.Comparison.{same, alike, Difference, contentsIn, difference, differing, upTo}
-use Rattle.bench_log.proofs.Same.{same-self}
+use Rattle.bench_log.proofs.Equals.{same-self}
 use Rattle.bench_log.proofs.Aligned.{blockDifferences, sectionDifferences, columnDifferences, presenceDifference, messageDifferences, messages-differ}
 
 -- ---- no field of a technology has the name of the ID, or of a field of the head
@@ -46,7 +46,7 @@ kept-none : Kept []
 kept-none es = refl
 
 kept-one : (name : List ℕ) (l r : Contents) → same name messageIdName ≡ false → Kept (difference name l r)
-unfolding upTo
+unfolding upTo difference
 kept-one name l r e es = by-bool (alike l r) (λ y. rw y) (λ n. rw (n, e))
 
 kept-both : (ds fs : List Difference) → Kept ds → Kept fs → Kept (ds ++ fs)
@@ -174,15 +174,15 @@ module _ (dl dr : ℕ) where
 
     -- the ID, if it differs, is the last
     id-last : (ds : List Difference) → (a .id ≡ b .id → ⊥) → upTo messageIdName (idDifference ++ ds) ≡ idDifference
-    unfolding upTo
+    unfolding upTo difference
     id-last ds n = rw (ne-eqb (a .id) (b .id) n)
 
     pub shown-ids : (a .id ≡ b .id → ⊥) → shownFrom dl (accept a) dr (accept b) ≡ directionDifference ++ idDifference
-    unfolding differing contentsIn messageFields
+    unfolding differing contentsIn messageFields difference
     shown-ids n = kept-direction (idDifference ++ _) ∙ rw (id-last _ n)
 
     pub shown-messages : a .id ≡ b .id → shownFrom dl (accept a) dr (accept b) ≡ directionDifference ++ messageDifferences a b (row (a .id) .column)
-    unfolding upTo
+    unfolding upTo difference
     shown-messages e =
         let c = row (a .id) .column in
         let f : row (b .id) .column ≡ c = ap (λ (i : ℕ). row i .column) (sym e) in

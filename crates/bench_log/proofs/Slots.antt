@@ -9,7 +9,7 @@ use borrow.Author.Tests.{not-true}
 use Rattle.codec.proofs.Outcomes.{and-true}
 use Rattle.bench_log.specs.Fields.{Contents, FieldOf}
 use Rattle.bench_log.specs.Comparison.{same, Difference, contentsIn, difference, against, differing}
-use Rattle.bench_log.proofs.Same.{same-self}
+use Rattle.bench_log.proofs.Equals.{same-self}
 
 pub record Slot : Type 0 where
   pub name : List ℕ

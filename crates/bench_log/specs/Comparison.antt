@@ -45,7 +45,7 @@ unfoldable pub contentsIn : List FieldOf → List ℕ → Option Contents
 contentsIn [] x = none
 contentsIn (f ∷ fs) x = cond (same (f .name) x) (some (f .contents)) (contentsIn fs x)
 
-abbrev pub difference : List ℕ → Contents → Contents → List Difference
+unfoldable pub difference : List ℕ → Contents → Contents → List Difference
 difference name x y = cond (alike x y) [] (record { name = name; left = x; right = y } ∷ [])
 
 abbrev pub against : FieldOf → Option Contents → List Difference
@@ -91,7 +91,7 @@ differenceLine n d =
     ++ (ascii ": left " ++ (shownContents (d .left)
     ++ (ascii ", right " ++ (shownContents (d .right) ++ ascii "\n"))))))
 
-abbrev pub differenceLines : ℕ → List Difference → List ℕ
+unfoldable pub differenceLines : ℕ → List Difference → List ℕ
 differenceLines n ds = flatten (map (differenceLine n) ds)
 
 abbrev pub pairLines : ℕ → List ℕ → List ℕ → List ℕ

@@ -5,3 +5,4 @@ pub mod Text
 pub mod Listing
 pub mod Fields
 pub mod Comparison
+pub mod Inner

@@ -1,8 +1,11 @@
 // Bench logs: what their records say, the totals, and the text of the listing.
+mod block;
 mod comparison;
+mod difference;
 mod entry;
 mod layout;
 mod listing;
+mod same;
 mod text;
 mod totals;
 

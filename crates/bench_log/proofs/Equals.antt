@@ -1,11 +1,13 @@
 -- Two lists of octets are the same, and two contents are alike, exactly if they are equal.
-use Prim.Native.Nat.{ℕ}
+use Prim.Native.Nat.{ℕ, zero, suc, _<_}
+use native.Mathlib.Omega.{arith}
 use mathlib.Core.Path.{_≡_, refl, ap, sym, _∙_}
 use mathlib.Core.List.{List, [], _∷_}
-use mathlib.Core.Bool.{Bool, true, false, true≢false}
+use mathlib.Core.Bool.{Bool, true, false, _&&_, true≢false}
 use lib.Dec.{eqb}
+use lib.ListN.{length, getD, take}
 use borrow.Author.Tests.{eqb-true, eq-eqb}
-use Rattle.codec.proofs.Outcomes.{and-true}
+use Rattle.codec.proofs.Outcomes.{by-bool, and-true}
 use Rattle.bench_log.specs.Fields.{Contents, amount, string}
 use Rattle.bench_log.specs.Comparison.{same, alike}
 
@@ -30,3 +32,21 @@ alike-equal (amount x) (amount y) e = ap amount (eqb-true x y e)
 alike-equal (string x) (string y) e = ap string (same-equal x y e)
 alike-equal (amount x) (string y) e = absurd (true≢false (sym e))
 alike-equal (string x) (amount y) e = absurd (true≢false (sym e))
+
+-- lists of different lengths, and octet by octet
+and-one : (a : Bool) → (a && true) ≡ (true && a)
+and-one true = refl
+and-one false = refl
+
+and-assoc : (a b c : Bool) → (a && (b && c)) ≡ ((a && b) && c)
+and-assoc true b c = refl
+and-assoc false b c = refl
+
+pub not-same : (x y : List ℕ) → (length x ≡ length y → ⊥) → same x y ≡ false
+not-same x y n = by-bool (same x y) (λ e. absurd (n (ap length (same-equal x y e)))) (λ e. e)
+
+pub same-next : (i : ℕ) (x y : List ℕ) → i < length x → i < length y → same (take (suc i) x) (take (suc i) y) ≡ (same (take i x) (take i y) && eqb (getD x i 0) (getD y i 0))
+same-next zero (x ∷ xs) (y ∷ ys) h k = and-one (eqb x y)
+same-next (suc i) (x ∷ xs) (y ∷ ys) h k = rw (same-next i xs ys (omega arith) (omega arith)) (and-assoc (eqb x y) _ _)
+same-next i [] y h k = absurd (omega arith)
+same-next i (x ∷ xs) [] h k = absurd (omega arith)

@@ -1,0 +1,2 @@
+-- What the contracts of inner functions cite. No contract of a public function rests on it, and no theorem does.
+pub mod Coded
