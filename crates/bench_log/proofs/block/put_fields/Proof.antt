@@ -1,6 +1,6 @@
+use borrow.Author.Needs.{needs}
 use Rattle.bench_log.proofs.Walking.{Walking, at-start, at-end, here, here-taken, step-taken}
 use native.Mathlib.Omega.{arith}
-use borrow.Author.Needs.{needs}
 use Rattle.bench_log.proofs.block.put_fields.Statement.{statement}
 use Rattle.bench_log.proofs.block.put_fields.Tie as tie
 
@@ -27,6 +27,9 @@ add-wide c = let f = here (omega arith) (c .before .before .loop .inv) in omega 
 shared-slice-read-wide : tie.Need-shared-slice-read-wide Inv-loop μ-loop
 shared-slice-read-wide c = let f = here (omega arith) (c .before .before .before .loop .inv) in omega (arith, f .whole)
 
+wide-requires : tie.Need-wide-requires Inv-loop μ-loop
+wide-requires c κs = search needs
+
 add-end : tie.Need-add-end Inv-loop μ-loop
 add-end c = let f = here (omega arith) (c .before .before .before .before .loop .inv) in omega (arith, f .whole, c .wide .ensures)
 
@@ -42,11 +45,29 @@ octets-at-requires-2 c κs = let f = here (omega arith) (c .before .before .befo
 add-y : tie.Need-add-y Inv-loop μ-loop
 add-y c = let f = here (omega arith) (c .before .before .before .before .before .before .loop .inv) in omega (arith, f .right, c .octets-at2 .ensures)
 
+sub-put-field : tie.Need-sub-put-field Inv-loop μ-loop
+sub-put-field c = search needs
+
+part-put-field-start : tie.Need-part-put-field-start Inv-loop μ-loop
+part-put-field-start c = search needs
+
 part-put-field-end : tie.Need-part-put-field-end Inv-loop μ-loop
 part-put-field-end c = let f = here (omega arith) (c .before .before .before .before .before .before .before .loop .inv) in omega (arith, f .whole, c .before .before .before .wide .ensures)
 
+sub-put-field-2 : tie.Need-sub-put-field-2 Inv-loop μ-loop
+sub-put-field-2 c = search needs
+
+part-put-field-start-2 : tie.Need-part-put-field-start-2 Inv-loop μ-loop
+part-put-field-start-2 c = search needs
+
 part-put-field-end-2 : tie.Need-part-put-field-end-2 Inv-loop μ-loop
 part-put-field-end-2 c = let f = here (omega arith) (c .before .before .before .before .before .before .before .before .loop .inv) in omega (arith, f .left, c .before .before .before .octets-at .ensures)
+
+sub-put-field-3 : tie.Need-sub-put-field-3 Inv-loop μ-loop
+sub-put-field-3 c = search needs
+
+part-put-field-start-3 : tie.Need-part-put-field-start-3 Inv-loop μ-loop
+part-put-field-start-3 c = search needs
 
 part-put-field-end-3 : tie.Need-part-put-field-end-3 Inv-loop μ-loop
 part-put-field-end-3 c = let f = here (omega arith) (c .before .before .before .before .before .before .before .before .before .loop .inv) in omega (arith, f .right, c .before .before .before .octets-at2 .ensures)
@@ -54,8 +75,17 @@ part-put-field-end-3 c = let f = here (omega arith) (c .before .before .before .
 put-field-requires : tie.Need-put-field-requires Inv-loop μ-loop
 put-field-requires c κs = here-taken (omega arith) (c .before .before .before .before .before .before .before .before .before .before .loop .inv) (c .before .before .before .before .before .before .wide .ensures) (c .before .before .before .before .before .octets-at .ensures) (c .before .before .before .before .octets-at2 .ensures)
 
+sub-todo : tie.Need-sub-todo Inv-loop μ-loop
+sub-todo c = search needs
+
+loop-less : tie.Need-loop-less Inv-loop μ-loop
+loop-less c = search needs
+
 loop-again : tie.Need-loop-again Inv-loop μ-loop
 loop-again c = step-taken (omega arith) (c .before .before .before .before .before .before .before .before .before .before .before .before .before .loop .inv) (c .before .before .before .before .before .before .before .before .before .wide .ensures) (c .before .before .before .before .before .before .before .before .octets-at .ensures) (c .before .before .before .before .before .before .before .octets-at2 .ensures) (c .before .before .put-field .ensures)
+
+same-length : tie.Need-same-length Inv-loop μ-loop
+same-length c = search needs
 
 returns : tie.Need-returns Inv-loop μ-loop
 returns c = at-end (omega arith) (c .before .loop .inv)
@@ -71,24 +101,24 @@ put-fields-spec =
     add-name
     add-wide
     shared-slice-read-wide
-    (search needs)
+    wide-requires
     add-end
     octets-at-requires
     add-x
     octets-at-requires-2
     add-y
-    (search needs)
-    (search needs)
+    sub-put-field
+    part-put-field-start
     part-put-field-end
-    (search needs)
-    (search needs)
+    sub-put-field-2
+    part-put-field-start-2
     part-put-field-end-2
-    (search needs)
-    (search needs)
+    sub-put-field-3
+    part-put-field-start-3
     part-put-field-end-3
     put-field-requires
-    (search needs)
-    (search needs)
+    sub-todo
+    loop-less
     loop-again
-    (search needs)
+    same-length
     returns)
