@@ -16,6 +16,7 @@ use Rattle.codec.specs.declared.records.Record.{Record}
 use Rattle.bench_log.specs.Text.{ascii}
 use Rattle.bench_log.specs.Fields.{Contents, amount, string, FieldOf, prefix, blockFields, messageIdName, presence, fieldsIf, columnFields, messageFields, headFields, fieldsFrom}
 use Rattle.bench_log.specs.Comparison.{Difference, difference, differing}
+use Rattle.bench_log.specs.Inner.Differences.{blockDifferences, sectionDifferences, columnDifferences, presenceDifference, messageDifferences}
 use Rattle.bench_log.proofs.Slots.{Slot, held, lefts, rights, meet, meets, distinct, slots-differ}
 
 -- ---- slots in parts
@@ -58,16 +59,6 @@ module _ (p : List ℕ) (a b : Bool) where
       slot (p ++ ascii y) (amount (v .0)) (amount (w .0))
       ∷ (slot (p ++ ascii x) (string (take (v .0) (v .1 .0))) (string (take (w .0) (w .1 .0)))
       ∷ blockSlots L (v .1 .1) (w .1 .1))
-
--- the fields of two blocks that differ
-abbrev pub blockDifferences : List ℕ → (L : Layout) → Values L → Values L → List Difference
-blockDifferences p [] v w = []
-blockDifferences p (number x n t ∷ L) v w = difference (p ++ ascii x) (amount (v .0)) (amount (w .0)) ++ blockDifferences p L (v .1) (w .1)
-blockDifferences p (octets x n t ∷ L) v w = difference (p ++ ascii x) (string (v .0)) (string (w .0)) ++ blockDifferences p L (v .1) (w .1)
-blockDifferences p (counted y x t c ∷ L) v w =
-    difference (p ++ ascii y) (amount (v .0)) (amount (w .0))
-    ++ (difference (p ++ ascii x) (string (take (v .0) (v .1 .0))) (string (take (w .0) (w .1 .0)))
-    ++ blockDifferences p L (v .1 .1) (w .1 .1))
 
 module _ (p : List ℕ) where
   lefts-there : (b : Bool) (L : Layout) (v w : Values L) → lefts (blockSlots p true b L v w) ≡ blockFields p L v
@@ -156,29 +147,14 @@ module _ (a b : Record) where
   column-right none = refl
   column-right (some k) = each rights rights-append refl (section k) (fieldsIf k b) (section-right k) technologies
 
-  -- the fields of blocks that both have and that differ
-  abbrev pub sectionDifferences : Column → Technology → List Difference
-  sectionDifferences k t = cond (names (a .set) t && names (b .set) t) (blockDifferences (prefix t) (cell k t) (ofRecord a k t) (ofRecord b k t)) []
-
-  abbrev pub columnDifferences : Option Column → List Difference
-  columnDifferences none = []
-  columnDifferences (some k) = flatten (map (sectionDifferences k) technologies)
-
-  column-meets : (c : Option Column) → meets (columnSlots c) ≡ columnDifferences c
+  column-meets : (c : Option Column) → meets (columnSlots c) ≡ columnDifferences a b c
   column-meets none = refl
-  column-meets (some k) = each meets meets-append refl (section k) (sectionDifferences k) (λ t. meets-block (prefix t) (names (a .set) t) (names (b .set) t) (cell k t) (ofRecord a k t) (ofRecord b k t)) technologies
+  column-meets (some k) = each meets meets-append refl (section k) (sectionDifferences a b k) (λ t. meets-block (prefix t) (names (a .set) t) (names (b .set) t) (cell k t) (ofRecord a k t) (ofRecord b k t)) technologies
 
-  abbrev pub presenceDifference : Technology → List Difference
-  presenceDifference t = difference (presence (a .set) t .name) (presence (a .set) t .contents) (presence (b .set) t .contents)
-
-  presences-meet : (ts : List Technology) (ss : List Slot) → meets (map presenceSlot ts ++ ss) ≡ flatten (map presenceDifference ts) ++ meets ss
+  presences-meet : (ts : List Technology) (ss : List Slot) → meets (map presenceSlot ts ++ ss) ≡ flatten (map (presenceDifference a b) ts) ++ meets ss
   unfolding flatten
   presences-meet [] ss = refl
-  presences-meet (t ∷ ts) ss = rw (presences-meet ts ss) (sym (append-assoc (presenceDifference t) _ _))
-
-  -- what differs after the ID
-  abbrev pub messageDifferences : Option Column → List Difference
-  messageDifferences c = flatten (map presenceDifference technologies) ++ columnDifferences c
+  presences-meet (t ∷ ts) ss = rw (presences-meet ts ss) (sym (append-assoc (presenceDifference a b t) _ _))
 
   module _ (dl dr : ℕ) (c : Option Column) where
     pub slots-left : row (a .id) .column ≡ c → lefts (slotsOf dl dr c) ≡ fieldsFrom dl (accept a)
@@ -189,7 +165,7 @@ module _ (a b : Record) where
     unfolding messageFields
     slots-right e = rw (e, column-right c)
 
-    pub slots-meet : meets (slotsOf dl dr c) ≡ difference (ascii "direction") (amount dl) (amount dr) ++ (difference messageIdName (amount (a .id)) (amount (b .id)) ++ messageDifferences c)
+    pub slots-meet : meets (slotsOf dl dr c) ≡ difference (ascii "direction") (amount dl) (amount dr) ++ (difference messageIdName (amount (a .id)) (amount (b .id)) ++ messageDifferences a b c)
     unfolding difference
     slots-meet =
         ap (λ (ds : List Difference). difference (ascii "direction") (amount dl) (amount dr) ++ (difference messageIdName (amount (a .id)) (amount (b .id)) ++ ds))
@@ -197,5 +173,5 @@ module _ (a b : Record) where
 
     -- so the fields that differ are these
     pub messages-differ : row (a .id) .column ≡ c → row (b .id) .column ≡ c → differing (fieldsFrom dl (accept a)) (fieldsFrom dr (accept b))
-        ≡ difference (ascii "direction") (amount dl) (amount dr) ++ (difference messageIdName (amount (a .id)) (amount (b .id)) ++ messageDifferences c)
+        ≡ difference (ascii "direction") (amount dl) (amount dr) ++ (difference messageIdName (amount (a .id)) (amount (b .id)) ++ messageDifferences a b c)
     messages-differ e f = rw (← slots-left e, ← slots-right f) (slots-differ (slotsOf dl dr c) (slots-distinct dl dr c) ∙ slots-meet)

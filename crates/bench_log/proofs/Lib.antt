@@ -6,6 +6,7 @@ pub mod Shown
 pub mod Readings
 pub mod Differences
 pub mod Walking
+pub mod Coded
 pub mod Decimals
 pub mod Entries
 pub mod Lines

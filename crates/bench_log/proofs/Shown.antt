@@ -20,7 +20,8 @@ use Rattle.bench_log.specs.Text.{ascii}
 use Rattle.bench_log.specs.Fields.{Contents, amount, string, FieldOf, prefix, blockFields, messageIdName, presence, fieldsIf, columnFields, messageFields, headFields, fieldsFrom}
 use Rattle.bench_log.specs.Comparison.{same, alike, Difference, contentsIn, difference, differing, upTo}
 use Rattle.bench_log.proofs.Equals.{same-self}
-use Rattle.bench_log.proofs.Aligned.{blockDifferences, sectionDifferences, columnDifferences, presenceDifference, messageDifferences, messages-differ}
+use Rattle.bench_log.specs.Inner.Differences.{blockDifferences, sectionDifferences, columnDifferences, presenceDifference, messageDifferences}
+use Rattle.bench_log.proofs.Aligned.{messages-differ}
 
 -- ---- no field of a technology has the name of the ID, or of a field of the head
 

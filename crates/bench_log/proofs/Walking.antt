@@ -61,7 +61,7 @@ lines-append n (d ∷ ds) es = rw (lines-append n ds es) (sym (append-assoc (dif
 pub at-end : {technology layout l r d out : List ℕ} {count number at next place a b todo : ℕ} → todo ≡ 0
     → Walking technology count layout l r number at d out next place a b todo
     → Put d at (differenceLines number (itemDifferences technology (decoded count layout) l 2 r 2)) out next × (next ≤ at + linesLimit (decoded count layout))
-unfolding differenceLines flatten
+unfolding differenceLines flatten decoded itemDifferences
 at-end {d = d} {out = out} {at = at} {next = next} z w =
     (subst (λ (x : List ℕ). Put d at x out next) (sym (w .text ∙ rw z (append-nil (w .done)))) (w .put), omega (arith, w .limit))
 
@@ -87,6 +87,7 @@ module _ {technology layout l r d out : List ℕ} {count number at next place a 
 
   -- it is the first of those that are left
   items-are : decoded todo (drop place layout) ≡ item ∷ decoded (todo - 1) rest
+  unfolding decoded
   items-are =
       ap (λ (n : ℕ). decoded n (drop place layout)) one-more
       ∙ rw (getD-drop place layout 1 0, ← head-at place layout, drop-drop 2 place layout, drop-drop (2 + size) place layout, ← add-assoc place 2 size)
@@ -109,6 +110,7 @@ module _ {technology layout l r d out : List ℕ} {count number at next place a 
   right = subst (λ (is : List Item). Within is r b) items-are (w .ready .right)
 
   limits : linesLimit (decoded todo (drop place layout)) ≡ lineLimit head + length name + linesLimit (decoded (todo - 1) rest)
+  unfolding linesLimit
   limits = ap linesLimit items-are
 
   inside : place + 2 + size ≤ length layout
@@ -148,6 +150,7 @@ module _ {technology layout l r d out : List ℕ} {count number at next place a 
       → Put out next (differenceLines number (difference (technology ++ name) (contentsBy head (part a (width head l a) l)) (contentsBy head (part b (width head r b) r)))) f q
       → q ≤ next + lineLimit head + length name
       → Walking technology count layout l r number at d f q (place + 2 + size) (a + width head l a) (b + width head r b) (todo - 1)
+  unfolding itemDifferences
   step {f} {q} p m =
       let one = difference (technology ++ name) (contentsBy head (part a (width head l a) l)) (contentsBy head (part b (width head r b) r)) in
       let others = itemDifferences technology (decoded (todo - 1) rest) l (a + width head l a) r (b + width head r b) in

@@ -1,2 +1,3 @@
 -- What the contracts of inner functions cite. No contract of a public function rests on it, and no theorem does.
 pub mod Coded
+pub mod Differences

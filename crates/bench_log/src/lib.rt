@@ -6,6 +6,7 @@ mod entry;
 mod layout;
 mod listing;
 mod same;
+mod sections;
 mod text;
 mod totals;
 

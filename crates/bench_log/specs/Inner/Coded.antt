@@ -24,7 +24,7 @@ itemsOf (octets x n t ∷ L) = record { head = 64 + n; name = ascii x } ∷ item
 itemsOf (counted y x t c ∷ L) = record { head = 1; name = ascii y } ∷ (record { head = 128 + c; name = ascii x } ∷ itemsOf L)
 
 -- so many fields, one after the other
-abbrev pub decoded : ℕ → List ℕ → List Item
+unfoldable pub decoded : ℕ → List ℕ → List Item
 decoded zero s = []
 decoded (suc n) s = record { head = getD s 0 0; name = part 2 (getD s 1 0) s } ∷ decoded n (drop (2 + getD s 1 0) s)
 
@@ -52,7 +52,7 @@ unfoldable pub contentsBy : ℕ → List ℕ → Contents
 contentsBy head s = cond (ltb head 64) (amount (ofLE (length s) 0 s)) (string s)
 
 -- what differs in two blocks from places on
-abbrev pub itemDifferences : List ℕ → List Item → List ℕ → ℕ → List ℕ → ℕ → List Difference
+unfoldable pub itemDifferences : List ℕ → List Item → List ℕ → ℕ → List ℕ → ℕ → List Difference
 itemDifferences p [] l a r b = []
 itemDifferences p (i ∷ is) l a r b =
     difference (p ++ i .name) (contentsBy (i .head) (part a (width (i .head) l a) l)) (contentsBy (i .head) (part b (width (i .head) r b) r))
@@ -69,7 +69,7 @@ Within (i ∷ is) s at =
 abbrev pub lineLimit : ℕ → ℕ
 lineLimit head = cond (ltb head 64) 82 (42 + 4 * most head)
 
-abbrev pub linesLimit : List Item → ℕ
+unfoldable pub linesLimit : List Item → ℕ
 linesLimit [] = 0
 linesLimit (i ∷ is) = lineLimit (i .head) + length (i .name) + linesLimit is
 

@@ -1,0 +1,76 @@
+-- What differs in two accepted messages with the same ID, and what the code that lays it out needs.
+use Prim.Native.Nat.{ℕ, _+_, _≤_}
+use mathlib.Core.Path.{_≡_}
+use mathlib.Core.List.{List, [], _∷_, _++_, map, flatten}
+use mathlib.Core.Option.{Option, none, some}
+use mathlib.Core.Bool.{Bool, true, false, _&&_, cond}
+use lib.Dec.{eqb}
+use lib.ListN.{length, getD, take, drop}
+use Rattle.codec.specs.Octets.{Octets}
+use Rattle.codec.specs.Technology.{Technology, uwb, cs, nan, rssi, technologyId, technologies, names}
+use Rattle.codec.specs.Layout.{Layout, number, octets, counted, Values, value}
+use Rattle.codec.specs.Blocks.{Column, capabilities, configurations, cell}
+use Rattle.codec.specs.Records.{ofRecord}
+use Rattle.codec.specs.Inner.Places.{Roomy}
+use Rattle.codec.specs.Inner.Puts.{Put}
+use Rattle.codec.specs.declared.records.Record.{Record}
+use Rattle.bench_log.specs.Text.{ascii}
+use Rattle.bench_log.specs.Fields.{amount, string, prefix, presence}
+use Rattle.bench_log.specs.Comparison.{Difference, difference, differenceLines}
+use Rattle.bench_log.specs.Inner.Coded.{itemsOf, linesLimit}
+
+-- the fields of two blocks that differ
+abbrev pub blockDifferences : List ℕ → (L : Layout) → Values L → Values L → List Difference
+blockDifferences p [] v w = []
+blockDifferences p (number x n t ∷ L) v w = difference (p ++ ascii x) (amount (v .0)) (amount (w .0)) ++ blockDifferences p L (v .1) (w .1)
+blockDifferences p (octets x n t ∷ L) v w = difference (p ++ ascii x) (string (v .0)) (string (w .0)) ++ blockDifferences p L (v .1) (w .1)
+blockDifferences p (counted y x t c ∷ L) v w =
+    difference (p ++ ascii y) (amount (v .0)) (amount (w .0))
+    ++ (difference (p ++ ascii x) (string (take (v .0) (v .1 .0))) (string (take (w .0) (w .1 .0)))
+    ++ blockDifferences p L (v .1 .1) (w .1 .1))
+
+module _ (a b : Record) where
+  -- the fields of blocks that both have and that differ
+  abbrev pub sectionDifferences : Column → Technology → List Difference
+  sectionDifferences k t = cond (names (a .set) t && names (b .set) t) (blockDifferences (prefix t) (cell k t) (ofRecord a k t) (ofRecord b k t)) []
+
+  abbrev pub columnDifferences : Option Column → List Difference
+  columnDifferences none = []
+  columnDifferences (some k) = flatten (map (sectionDifferences k) technologies)
+
+  abbrev pub presenceDifference : Technology → List Difference
+  presenceDifference t = difference (presence (a .set) t .name) (presence (a .set) t .contents) (presence (b .set) t .contents)
+
+  -- what differs after the ID
+  abbrev pub messageDifferences : Option Column → List Difference
+  messageDifferences c = flatten (map presenceDifference technologies) ++ columnDifferences c
+
+-- ---- as the code takes it
+
+abbrev pub columnBy : (configuration : Bool) → Column
+columnBy true = configurations
+columnBy false = capabilities
+
+unfoldable pub technologyBy : (id : ℕ) → Technology
+technologyBy id = cond (eqb id 0) uwb (cond (eqb id 1) cs (cond (eqb id 2) nan rssi))
+
+-- what differs in two blocks of a technology, of which the lines take at most so many octets
+unfoldable pub blockAt : Column → Technology → List ℕ → List ℕ → List Difference
+blockAt k t l r = blockDifferences (prefix t) (cell k t) (value (cell k t) 2 l) (value (cell k t) 2 r)
+
+unfoldable pub sectionLimit : Column → Technology → ℕ
+sectionLimit k t = linesLimit (itemsOf (cell k t))
+
+pub record BlockReady (k : Column) (t : Technology) (l r : List ℕ) (at : ℕ) (d : List ℕ) : Type 0 where
+  pub left : Roomy (cell k t) 2 l
+  pub right : Roomy (cell k t) 2 r
+  pub room : at + sectionLimit k t ≤ length d
+
+-- the same at places of two messages, if it is present in both
+unfoldable pub sectionAt : Bool → Column → Technology → List ℕ → ℕ → List ℕ → ℕ → List Difference
+sectionAt present k t l a r b = cond present (blockAt k t (drop a l) (drop b r)) []
+
+pub record SectionReady (present : Bool) (k : Column) (t : Technology) (l : List ℕ) (a : ℕ) (r : List ℕ) (b at : ℕ) (d : List ℕ) : Type 0 where
+  pub left : present ≡ true → Roomy (cell k t) 2 (drop a l)
+  pub right : present ≡ true → Roomy (cell k t) 2 (drop b r)
+  pub room : at + sectionLimit k t ≤ length d

@@ -1,0 +1,169 @@
+// What differs in the blocks of two messages: a section for each technology that both have. The layouts are those of 01's table; `block`
+// says how they are held.
+use crate::block::put_fields;
+use codec::technology::CS;
+use codec::technology::NAN;
+use codec::technology::UWB;
+ghost use mathlib.Core.Path.{_≡_};
+ghost use Prim.Native.Nat.{_+_, _≤_};
+ghost use Rattle.codec.specs.Blocks.{capabilities, configurations};
+ghost use Rattle.codec.specs.Inner.Puts.{Put};
+ghost use Rattle.bench_log.specs.Comparison.{differenceLines};
+ghost use Rattle.bench_log.specs.Inner.Differences.{technologyBy, columnBy, blockAt, BlockReady, sectionAt, sectionLimit, SectionReady};
+
+// Two blocks of message 1.
+fn put_capability(
+    out: &mut [u8],
+    at: usize,
+    number: u64,
+    id: u8,
+    left: &[u8],
+    right: &[u8],
+) -> usize
+    requires { ⌜ BlockReady capabilities (technologyBy id) (now left) (now right) at (now out) ⌝ }
+    ensures { λ r. ⌜ Put (now (out .entry)) at (differenceLines number (blockAt capabilities (technologyBy id) (now (left .entry)) (now (right .entry)))) (now (out .exit)) r
+        × (r ≤ at + sectionLimit capabilities (technologyBy id)) ⌝ }
+{
+    if id == UWB {
+        return put_fields(
+            out,
+            at,
+            number,
+            b"UWB ",
+            7,
+            b"\x42\x07address\x04\x08channels\x04\x10preamble indexes\x04\x0Aconfig IDs\x02\x11shortest interval\x01\x0Dshortest slot\x01\x05roles",
+            left,
+            right,
+        );
+    }
+    if id == CS {
+        return put_fields(
+            out,
+            at,
+            number,
+            b"CS ",
+            2,
+            b"\x01\x0Esecurity types\x46\x07address",
+            left,
+            right,
+        );
+    }
+    if id == NAN {
+        return put_fields(
+            out,
+            at,
+            number,
+            b"NAN ",
+            4,
+            b"\x01\x08features\x01\x08periodic\x01\x09bandwidth\x01\x0Ereceive chains",
+            left,
+            right,
+        );
+    }
+    put_fields(
+        out,
+        at,
+        number,
+        b"RSSI ",
+        1,
+        b"\x46\x07address",
+        left,
+        right,
+    )
+}
+
+// Two blocks of message 2.
+fn put_configuration(
+    out: &mut [u8],
+    at: usize,
+    number: u64,
+    id: u8,
+    left: &[u8],
+    right: &[u8],
+) -> usize
+    requires { ⌜ BlockReady configurations (technologyBy id) (now left) (now right) at (now out) ⌝ }
+    ensures { λ r. ⌜ Put (now (out .entry)) at (differenceLines number (blockAt configurations (technologyBy id) (now (left .entry)) (now (right .entry)))) (now (out .exit)) r
+        × (r ≤ at + sectionLimit configurations (technologyBy id)) ⌝ }
+{
+    if id == UWB {
+        return put_fields(
+            out,
+            at,
+            number,
+            b"UWB ",
+            12,
+            b"\x42\x07address\x04\x0Asession ID\x01\x09config ID\x01\x07channel\x01\x0Epreamble index\x02\x08interval\x01\x04slot\x01\x0Akey length\xA0\x03key\x42\x07country\x01\x04role\x01\x04mode",
+            left,
+            right,
+        );
+    }
+    if id == CS {
+        return put_fields(
+            out,
+            at,
+            number,
+            b"CS ",
+            2,
+            b"\x01\x0Esecurity level\x46\x07address",
+            left,
+            right,
+        );
+    }
+    if id == NAN {
+        return put_fields(
+            out,
+            at,
+            number,
+            b"NAN ",
+            4,
+            b"\x01\x0Bname length\xC0\x04name\x01\x04role\x01\x08periodic",
+            left,
+            right,
+        );
+    }
+    put_fields(
+        out,
+        at,
+        number,
+        b"RSSI ",
+        1,
+        b"\x46\x07address",
+        left,
+        right,
+    )
+}
+
+// A place that is kept in 16 bits.
+fn wide(place: u16) -> usize
+    ensures { λ r. ⌜ r ≡ place ⌝ }
+{
+    place as usize
+}
+
+// The section of a technology: its blocks begin at places of two messages, if it is present in both.
+pub(crate) fn put_section(
+    out: &mut [u8],
+    at: usize,
+    number: u64,
+    id: u8,
+    present: bool,
+    configuration: bool,
+    left: &[u8],
+    a: u16,
+    right: &[u8],
+    b: u16,
+) -> usize
+    requires { ⌜ SectionReady present (columnBy configuration) (technologyBy id) (now left) a (now right) b at (now out) ⌝ }
+    ensures { λ r. ⌜ Put (now (out .entry)) at (differenceLines number (sectionAt present (columnBy configuration) (technologyBy id) (now (left .entry)) a (now (right .entry)) b)) (now (out .exit)) r
+        × (r ≤ at + sectionLimit (columnBy configuration) (technologyBy id)) ⌝ }
+{
+    if !present {
+        return at;
+    }
+    let x = wide(a);
+    let y = wide(b);
+    if configuration {
+        return put_configuration(out, at, number, id, &left[x..], &right[y..]);
+    }
+    put_capability(out, at, number, id, &left[x..], &right[y..])
+}
