@@ -151,10 +151,10 @@ module _ (a b : Record) where
   column-meets none = refl
   column-meets (some k) = each meets meets-append refl (section k) (sectionDifferences a b k) (λ t. meets-block (prefix t) (names (a .set) t) (names (b .set) t) (cell k t) (ofRecord a k t) (ofRecord b k t)) technologies
 
-  presences-meet : (ts : List Technology) (ss : List Slot) → meets (map presenceSlot ts ++ ss) ≡ flatten (map (presenceDifference a b) ts) ++ meets ss
+  presences-meet : (ts : List Technology) (ss : List Slot) → meets (map presenceSlot ts ++ ss) ≡ flatten (map (presenceDifference (a .set) (b .set)) ts) ++ meets ss
   unfolding flatten
   presences-meet [] ss = refl
-  presences-meet (t ∷ ts) ss = rw (presences-meet ts ss) (sym (append-assoc (presenceDifference a b t) _ _))
+  presences-meet (t ∷ ts) ss = rw (presences-meet ts ss) (sym (append-assoc (presenceDifference (a .set) (b .set) t) _ _))
 
   module _ (dl dr : ℕ) (c : Option Column) where
     pub slots-left : row (a .id) .column ≡ c → lefts (slotsOf dl dr c) ≡ fieldsFrom dl (accept a)

@@ -9,7 +9,7 @@ use lib.ListN.{length, getD, take, drop, replicate, length-drop}
 use lib.Seq.{take-at, take-all, getD-take, getD-drop}
 use borrow.Author.Tests.{lt-ltb, le-ltb, ltb-true, leb-true, ne-eqb}
 use Rattle.codec.specs.Octets.{part, ofLE}
-use Rattle.codec.specs.Technology.{Technology, uwb, cs, nan, rssi}
+use Rattle.codec.specs.Technology.{Technology, uwb, cs, nan, rssi, technologyId, inBoth}
 use Rattle.codec.specs.Layout.{Layout, number, octets, counted, value}
 use Rattle.codec.specs.Blocks.{Column, capabilities, configurations, cell}
 use Rattle.codec.specs.Inner.Places.{Roomy}
@@ -22,7 +22,7 @@ use Rattle.bench_log.specs.Text.{ascii}
 use Rattle.bench_log.specs.Fields.{amount, string, prefix}
 use Rattle.bench_log.specs.Comparison.{difference, differenceLines}
 use Rattle.bench_log.specs.Inner.Coded.{Item, itemsOf, decoded, whole, plain, width, most, contentsBy, itemDifferences, Within, linesLimit, Ready}
-use Rattle.bench_log.specs.Inner.Differences.{blockDifferences, technologyBy, blockAt, sectionLimit, BlockReady, sectionAt, SectionReady}
+use Rattle.bench_log.specs.Inner.Differences.{blockDifferences, technologyBy, blockAt, sectionLimit, BlockReady, sectionAt, SectionReady, SectionsReady}
 
 -- the number in a part
 number-in : (w i at n : ℕ) (s : List ℕ) → i + w ≤ n → ofLE w i (part at n s) ≡ ofLE w (at + i) s
@@ -222,3 +222,21 @@ module _ (k : Column) (t : Technology) {l r d : List ℕ} {a b at : ℕ} {presen
         → Put d at (differenceLines n (sectionAt present k t l a r b)) f q × (q ≤ at + sectionLimit k t)
     unfolding sectionAt
     section-put n p = (rw e (rw (all l a, all r b) at (p .0)), p .1)
+
+-- the section of each technology, by its ID
+pub by-zero : technologyBy 0 ≡ uwb
+by-zero = is-uwb refl
+
+pub by-one : technologyBy 1 ≡ cs
+by-one = is-cs refl
+
+pub by-two : technologyBy 2 ≡ nan
+by-two = is-nan refl
+
+pub by-three : technologyBy 3 ≡ rssi
+by-three = is-rssi (λ e. omega arith) (λ e. omega arith) (λ e. omega arith)
+
+pub section-of : (k : Column) (s u id : ℕ) {t : Technology} {l places r others d first : List ℕ} {at from : ℕ} {present : Bool} → technologyBy id ≡ t → present ≡ inBoth s u t
+    → SectionsReady k s u l places r others from first → at + sectionLimit k t ≤ length d
+    → SectionReady present k (technologyBy id) l (getD places (technologyId t) 0) r (getD others (technologyId t) 0) at d
+section-of k s u id {t} same e h room = rw same (record { left = λ y. h .left t (sym e ∙ y); right = λ y. h .right t (sym e ∙ y); room = room })

@@ -6,6 +6,7 @@ use mathlib.Core.Path.{_≡_, refl, sym, ap, _∙_, subst}
 use mathlib.Core.List.{List, [], _∷_, _++_, map, flatten, append-assoc, append-nil}
 use mathlib.Core.Bool.{true, false}
 use lib.ListN.{length, getD, take}
+use Rattle.codec.specs.Technology.{Technology, uwb, cs, nan, rssi, technologies}
 use Rattle.codec.specs.Inner.Puts.{Put}
 use Rattle.codec.proofs.Puts.{put-then, put-last, put-none}
 use Rattle.bench_log.specs.Text.{ascii, decimal, hexDigit, hexadecimal}
@@ -41,3 +42,18 @@ module _ (n : ℕ) (x y : Contents) where
       let t : (decimal n ++ (ascii " " ++ (technology ++ (name ++ ascii ": left ")))) ++ rest ≡ decimal n ++ (ascii " " ++ ((technology ++ name) ++ (ascii ": left " ++ rest)))
       = append-assoc (decimal n) _ rest ∙ ap (λ (l : List ℕ). decimal n ++ (ascii " " ++ l)) (append-assoc technology (name ++ ascii ": left ") rest ∙ ap (λ (l : List ℕ). technology ++ l) (append-assoc name (ascii ": left ") rest) ∙ sym (append-assoc technology name _)) in
       rw u (put-last (subst (λ (l : List ℕ). Put d at l f q) t (put-then a b)))
+
+-- ---- lines one after the other
+
+pub lines-append : (n : ℕ) (ds es : List Difference) → differenceLines n (ds ++ es) ≡ differenceLines n ds ++ differenceLines n es
+unfolding differenceLines flatten
+lines-append n [] es = refl
+lines-append n (d ∷ ds) es = rw (lines-append n ds es) (sym (append-assoc (differenceLine n d) _ _))
+
+-- of each technology
+pub put-four : (n : ℕ) (f : Technology → List Difference) {d e g h i : List ℕ} {at p q r s : ℕ} → Put d at (differenceLines n (f uwb)) e p → Put e p (differenceLines n (f cs)) g q
+    → Put g q (differenceLines n (f nan)) h r → Put h r (differenceLines n (f rssi)) i s → Put d at (differenceLines n (flatten (map f technologies))) i s
+unfolding flatten
+put-four n f a b c d =
+    rw (lines-append n (f uwb) (f cs ++ (f nan ++ (f rssi ++ []))), lines-append n (f cs) (f nan ++ (f rssi ++ [])), lines-append n (f nan) (f rssi ++ []), append-nil (f rssi))
+    (put-then a (put-then b (put-then c d)))

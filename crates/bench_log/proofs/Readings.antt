@@ -139,8 +139,8 @@ module _ (a b : Record) (equal : a .set ≡ b .set) where
 module _ (a b : Record) where
   messages-equal : a .set < setLimit → b .set < setLimit → a .id ≡ b .id → messageDifferences a b (row (a .id) .column) ≡ [] → normal a ≡ normal b
   messages-equal h k i e =
-      let o = both-none (flatten (map (presenceDifference a b) technologies)) _ e in
-      let each : (t : Technology) → presenceDifference a b t ≡ [] = λ t. each-at (λ t. presenceDifference a b t ≡ []) t (each-none (presenceDifference a b) technologies (o .0)) (a-technology t) in
+      let o = both-none (flatten (map (presenceDifference (a .set) (b .set)) technologies)) _ e in
+      let each : (t : Technology) → presenceDifference (a .set) (b .set) t ≡ [] = λ t. each-at (λ t. presenceDifference (a .set) (b .set) t ≡ []) t (each-none (presenceDifference (a .set) (b .set)) technologies (o .0)) (a-technology t) in
       normal-equal a b (set-equal (a .set) (b .set) h k (λ t. amount-equal (none-equal (presence (a .set) t .name) (presence (a .set) t .contents) (presence (b .set) t .contents) (each t)))) i (o .1)
 
 section-self : (a : Record) (k : Column) (t : Technology) → sectionDifferences a a k t ≡ []
@@ -153,8 +153,8 @@ column-self a (some k) = none-each (sectionDifferences a a k) (section-self a k)
 message-self : (a : Record) (c : Option Column) → messageDifferences a a c ≡ []
 unfolding difference
 message-self a c =
-    let here : (t : Technology) → presenceDifference a a t ≡ [] = λ t. rw (alike-self (presence (a .set) t .contents)) in
-    rw (none-each (presenceDifference a a) here technologies, column-self a c)
+    let here : (t : Technology) → presenceDifference (a .set) (a .set) t ≡ [] = λ t. rw (alike-self (presence (a .set) t .contents)) in
+    rw (none-each (presenceDifference (a .set) (a .set)) here technologies, column-self a c)
 
 -- ---- records of a log
 

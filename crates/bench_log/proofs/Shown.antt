@@ -85,8 +85,8 @@ module _ (a b : Record) where
 
   kept-message : (c : Option Column) → Kept (messageDifferences a b c)
   kept-message c =
-      kept-both (flatten (map (presenceDifference a b) technologies)) (columnDifferences a b c)
-      (kept-each (presenceDifference a b) (λ t. kept-one (presence (a .set) t .name) (presence (a .set) t .contents) (presence (b .set) t .contents) (not-id t (ascii "presence"))) technologies)
+      kept-both (flatten (map (presenceDifference (a .set) (b .set)) technologies)) (columnDifferences a b c)
+      (kept-each (presenceDifference (a .set) (b .set)) (λ t. kept-one (presence (a .set) t .name) (presence (a .set) t .contents) (presence (b .set) t .contents) (not-id t (ascii "presence"))) technologies)
       (kept-column c)
 
 -- ---- a refused record meets nothing but the head of the other

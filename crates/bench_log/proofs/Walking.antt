@@ -14,7 +14,8 @@ use Rattle.codec.specs.Inner.Puts.{Put}
 use Rattle.codec.proofs.Laws.{part-length, head-at}
 use Rattle.codec.proofs.Outcomes.{and-true}
 use Rattle.codec.proofs.Puts.{put-then, put-none}
-use Rattle.bench_log.specs.Comparison.{Difference, difference, differenceLine, differenceLines}
+use Rattle.bench_log.specs.Comparison.{difference, differenceLines}
+use Rattle.bench_log.proofs.Differences.{lines-append}
 use Rattle.bench_log.specs.Inner.Coded.{Item, decoded, whole, isWidth, plain, width, most, contentsBy, itemDifferences, Within, lineLimit, linesLimit, FieldReady, Ready}
 
 -- ---- a number of one, two or four octets
@@ -52,11 +53,6 @@ at-start technology count layout l r number at d h = record {
   text = refl;
   limit = omega arith;
 }
-
-lines-append : (n : ℕ) (ds es : List Difference) → differenceLines n (ds ++ es) ≡ differenceLines n ds ++ differenceLines n es
-unfolding differenceLines flatten
-lines-append n [] es = refl
-lines-append n (d ∷ ds) es = rw (lines-append n ds es) (sym (append-assoc (differenceLine n d) _ _))
 
 pub at-end : {technology layout l r d out : List ℕ} {count number at next place a b todo : ℕ} → todo ≡ 0
     → Walking technology count layout l r number at d out next place a b todo

@@ -5,6 +5,7 @@ mod difference;
 mod entry;
 mod layout;
 mod listing;
+mod messages;
 mod same;
 mod sections;
 mod text;

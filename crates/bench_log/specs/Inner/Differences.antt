@@ -7,7 +7,7 @@ use mathlib.Core.Bool.{Bool, true, false, _&&_, cond}
 use lib.Dec.{eqb}
 use lib.ListN.{length, getD, take, drop}
 use Rattle.codec.specs.Octets.{Octets}
-use Rattle.codec.specs.Technology.{Technology, uwb, cs, nan, rssi, technologyId, technologies, names}
+use Rattle.codec.specs.Technology.{Technology, uwb, cs, nan, rssi, technologyId, technologies, names, inBoth}
 use Rattle.codec.specs.Layout.{Layout, number, octets, counted, Values, value}
 use Rattle.codec.specs.Blocks.{Column, capabilities, configurations, cell}
 use Rattle.codec.specs.Records.{ofRecord}
@@ -29,6 +29,10 @@ blockDifferences p (counted y x t c ∷ L) v w =
     ++ (difference (p ++ ascii x) (string (take (v .0) (v .1 .0))) (string (take (w .0) (w .1 .0)))
     ++ blockDifferences p L (v .1 .1) (w .1 .1))
 
+-- the presence of a technology in two sets
+abbrev pub presenceDifference : ℕ → ℕ → Technology → List Difference
+presenceDifference s u t = difference (presence s t .name) (presence s t .contents) (presence u t .contents)
+
 module _ (a b : Record) where
   -- the fields of blocks that both have and that differ
   abbrev pub sectionDifferences : Column → Technology → List Difference
@@ -38,12 +42,9 @@ module _ (a b : Record) where
   columnDifferences none = []
   columnDifferences (some k) = flatten (map (sectionDifferences k) technologies)
 
-  abbrev pub presenceDifference : Technology → List Difference
-  presenceDifference t = difference (presence (a .set) t .name) (presence (a .set) t .contents) (presence (b .set) t .contents)
-
   -- what differs after the ID
   abbrev pub messageDifferences : Option Column → List Difference
-  messageDifferences c = flatten (map presenceDifference technologies) ++ columnDifferences c
+  messageDifferences c = flatten (map (presenceDifference (a .set) (b .set)) technologies) ++ columnDifferences c
 
 -- ---- as the code takes it
 
@@ -74,3 +75,12 @@ pub record SectionReady (present : Bool) (k : Column) (t : Technology) (l : List
   pub left : present ≡ true → Roomy (cell k t) 2 (drop a l)
   pub right : present ≡ true → Roomy (cell k t) 2 (drop b r)
   pub room : at + sectionLimit k t ≤ length d
+
+-- the sections of two messages whose blocks begin at these places
+abbrev pub sectionIn : Column → (setLeft setRight : ℕ) → List ℕ → List ℕ → List ℕ → List ℕ → Technology → List Difference
+sectionIn k s u l places r others t = sectionAt (inBoth s u t) k t l (getD places (technologyId t) 0) r (getD others (technologyId t) 0)
+
+pub record SectionsReady (k : Column) (s u : ℕ) (l places r others : List ℕ) (at : ℕ) (d : List ℕ) : Type 0 where
+  pub left : (t : Technology) → inBoth s u t ≡ true → Roomy (cell k t) 2 (drop (getD places (technologyId t) 0) l)
+  pub right : (t : Technology) → inBoth s u t ≡ true → Roomy (cell k t) 2 (drop (getD others (technologyId t) 0) r)
+  pub room : at + (sectionLimit k uwb + (sectionLimit k cs + (sectionLimit k nan + sectionLimit k rssi))) ≤ length d

@@ -1,0 +1,77 @@
+// What differs in two accepted messages: the ID, and where it is equal which technologies are present, and the fields of their blocks.
+use crate::difference::put_numbers;
+use crate::sections::put_section;
+use codec::both_have;
+use codec::technology::CS;
+use codec::technology::NAN;
+use codec::technology::RSSI;
+use codec::technology::UWB;
+ghost use mathlib.Core.Path.{_≡_};
+ghost use mathlib.Core.Bool.{cond};
+ghost use mathlib.Core.List.{_++_, map, flatten};
+ghost use Prim.Native.Nat.{_+_, _≤_};
+ghost use lib.ListN.{length};
+ghost use Rattle.codec.specs.Technology.{uwb, cs, nan, rssi, technologies, bit};
+ghost use Rattle.codec.specs.Inner.Puts.{Put};
+ghost use Rattle.bench_log.specs.Text.{ascii};
+ghost use Rattle.bench_log.specs.Fields.{amount};
+ghost use Rattle.bench_log.specs.Comparison.{difference, differenceLines};
+ghost use Rattle.bench_log.specs.Inner.Differences.{presenceDifference, columnBy, sectionLimit, sectionIn, SectionsReady};
+
+fn presence(set: u16, id: u8) -> u64
+    ensures { λ r. ⌜ r ≡ cond (bit set id) 1 0 ⌝ }
+{
+    if codec::has(set, id) { 1 } else { 0 }
+}
+
+fn put_presence(
+    out: &mut [u8],
+    at: usize,
+    number: u64,
+    technology: &[u8],
+    id: u8,
+    left: u16,
+    right: u16,
+) -> usize
+    requires { ⌜ at + 85 + length (now technology) ≤ length (now out) ⌝ }
+    ensures { λ r. ⌜ Put (now (out .entry)) at (differenceLines number (difference (now (technology .entry) ++ ascii "presence") (amount (cond (bit left id) 1 0)) (amount (cond (bit right id) 1 0)))) (now (out .exit)) r
+        × (r ≤ at + 85 + length (now (technology .entry))) ⌝ }
+{
+    let x = presence(left, id);
+    let y = presence(right, id);
+    put_numbers(out, at, number, technology, b"presence", x, y)
+}
+
+// The presence of each technology in two sets.
+fn put_presences(out: &mut [u8], at: usize, number: u64, left: u16, right: u16) -> usize
+    requires { ⌜ at + 356 ≤ length (now out) ⌝ }
+    ensures { λ r. ⌜ Put (now (out .entry)) at (differenceLines number (flatten (map (presenceDifference left right) technologies))) (now (out .exit)) r × (r ≤ at + 356) ⌝ }
+{
+    let cs = put_presence(out, at, number, b"UWB ", UWB, left, right);
+    let nan = put_presence(out, cs, number, b"CS ", CS, left, right);
+    let rssi = put_presence(out, nan, number, b"NAN ", NAN, left, right);
+    put_presence(out, rssi, number, b"RSSI ", RSSI, left, right)
+}
+
+// The blocks of the technologies in both of two sets.
+fn put_sections(
+    out: &mut [u8],
+    at: usize,
+    number: u64,
+    configuration: bool,
+    s: u16,
+    u: u16,
+    left: &[u8],
+    a: &[u16; 5],
+    right: &[u8],
+    b: &[u16; 5],
+) -> usize
+    requires { ⌜ SectionsReady (columnBy configuration) s u (now left) (now a) (now right) (now b) at (now out) ⌝ }
+    ensures { λ r. ⌜ Put (now (out .entry)) at (differenceLines number (flatten (map (sectionIn (columnBy configuration) s u (now (left .entry)) (now (a .entry)) (now (right .entry)) (now (b .entry))) technologies))) (now (out .exit)) r
+        × (r ≤ at + (sectionLimit (columnBy configuration) uwb + (sectionLimit (columnBy configuration) cs + (sectionLimit (columnBy configuration) nan + sectionLimit (columnBy configuration) rssi)))) ⌝ }
+{
+    let cs = put_section(out, at, number, UWB, both_have(s, u, UWB), configuration, left, a[0], right, b[0]);
+    let nan = put_section(out, cs, number, CS, both_have(s, u, CS), configuration, left, a[1], right, b[1]);
+    let rssi = put_section(out, nan, number, NAN, both_have(s, u, NAN), configuration, left, a[2], right, b[2]);
+    put_section(out, rssi, number, RSSI, both_have(s, u, RSSI), configuration, left, a[3], right, b[3])
+}
