@@ -7,6 +7,7 @@ pub mod Readings
 pub mod Differences
 pub mod Walking
 pub mod Coded
+pub mod MessagePairs
 pub mod Decimals
 pub mod Entries
 pub mod Lines

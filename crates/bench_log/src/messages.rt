@@ -2,21 +2,26 @@
 use crate::difference::put_numbers;
 use crate::sections::put_section;
 use codec::both_have;
+use codec::message::CAPABILITY_RESPONSE;
+use codec::message::CONFIGURATION;
 use codec::technology::CS;
 use codec::technology::NAN;
 use codec::technology::RSSI;
+use codec::technology::SET_LIMIT;
 use codec::technology::UWB;
 ghost use mathlib.Core.Path.{_≡_};
 ghost use mathlib.Core.Bool.{cond};
 ghost use mathlib.Core.List.{_++_, map, flatten};
-ghost use Prim.Native.Nat.{_+_, _≤_};
+ghost use Prim.Native.Nat.{_+_, _*_, _≤_};
 ghost use lib.ListN.{length};
-ghost use Rattle.codec.specs.Technology.{uwb, cs, nan, rssi, technologies, bit};
+ghost use Rattle.codec.specs.Technology.{uwb, cs, nan, rssi, technologies, bit, known};
+ghost use Rattle.codec.specs.Message.{setOf};
+ghost use Rattle.codec.specs.Inner.Places.{recordAt};
 ghost use Rattle.codec.specs.Inner.Puts.{Put};
 ghost use Rattle.bench_log.specs.Text.{ascii};
 ghost use Rattle.bench_log.specs.Fields.{amount};
 ghost use Rattle.bench_log.specs.Comparison.{difference, differenceLines};
-ghost use Rattle.bench_log.specs.Inner.Differences.{presenceDifference, columnBy, sectionLimit, sectionIn, SectionsReady};
+ghost use Rattle.bench_log.specs.Inner.Differences.{presenceDifference, columnBy, sectionLimit, sectionIn, SectionsReady, readDifferences, messagesLimit, MessagesReady};
 
 fn presence(set: u16, id: u8) -> u64
     ensures { λ r. ⌜ r ≡ cond (bit set id) 1 0 ⌝ }
@@ -70,8 +75,103 @@ fn put_sections(
     ensures { λ r. ⌜ Put (now (out .entry)) at (differenceLines number (flatten (map (sectionIn (columnBy configuration) s u (now (left .entry)) (now (a .entry)) (now (right .entry)) (now (b .entry))) technologies))) (now (out .exit)) r
         × (r ≤ at + (sectionLimit (columnBy configuration) uwb + (sectionLimit (columnBy configuration) cs + (sectionLimit (columnBy configuration) nan + sectionLimit (columnBy configuration) rssi)))) ⌝ }
 {
-    let cs = put_section(out, at, number, UWB, both_have(s, u, UWB), configuration, left, a[0], right, b[0]);
-    let nan = put_section(out, cs, number, CS, both_have(s, u, CS), configuration, left, a[1], right, b[1]);
-    let rssi = put_section(out, nan, number, NAN, both_have(s, u, NAN), configuration, left, a[2], right, b[2]);
-    put_section(out, rssi, number, RSSI, both_have(s, u, RSSI), configuration, left, a[3], right, b[3])
+    let cs = put_section(
+        out,
+        at,
+        number,
+        UWB,
+        both_have(s, u, UWB),
+        configuration,
+        left,
+        a[0],
+        right,
+        b[0],
+    );
+    let nan = put_section(
+        out,
+        cs,
+        number,
+        CS,
+        both_have(s, u, CS),
+        configuration,
+        left,
+        a[1],
+        right,
+        b[1],
+    );
+    let rssi = put_section(
+        out,
+        nan,
+        number,
+        NAN,
+        both_have(s, u, NAN),
+        configuration,
+        left,
+        a[2],
+        right,
+        b[2],
+    );
+    put_section(
+        out,
+        rssi,
+        number,
+        RSSI,
+        both_have(s, u, RSSI),
+        configuration,
+        left,
+        a[3],
+        right,
+        b[3],
+    )
+}
+
+fn wide(x: u8) -> u64
+    ensures { λ r. ⌜ r ≡ x ⌝ }
+{
+    x as u64
+}
+
+fn joined(low: u8, high: u8) -> u16
+    ensures { λ r. ⌜ r ≡ low + 256 * high ⌝ }
+{
+    low as u16 + 256 * high as u16
+}
+
+// The set of a message, without reserved bits.
+fn set_in(message: &[u8]) -> u16
+    requires { ⌜ 4 ≤ length (now message) ⌝ }
+    ensures { λ r. ⌜ r ≡ known (setOf (now (message .entry))) ⌝ }
+{
+    joined(message[2], message[3]) % SET_LIMIT
+}
+
+// Two accepted messages, whose blocks begin at these places.
+pub(crate) fn put_messages(
+    out: &mut [u8],
+    at: usize,
+    number: u64,
+    left: &[u8],
+    a: &[u16; 5],
+    right: &[u8],
+    b: &[u16; 5],
+) -> usize
+    requires { ⌜ MessagesReady (now left) (now a) (now right) (now b) at (now out) ⌝ }
+    ensures { λ r. ⌜ Put (now (out .entry)) at (differenceLines number (readDifferences (recordAt (now (left .entry)) (now (a .entry))) (recordAt (now (right .entry)) (now (b .entry))))) (now (out .exit)) r
+        × (r ≤ at + messagesLimit) ⌝ }
+{
+    let id = left[1];
+    let other = right[1];
+    if id != other {
+        return put_numbers(out, at, number, b"", b"message ID", wide(id), wide(other));
+    }
+    let s = set_in(left);
+    let u = set_in(right);
+    let next = put_presences(out, at, number, s, u);
+    if id == CAPABILITY_RESPONSE {
+        return put_sections(out, next, number, false, s, u, left, a, right, b);
+    }
+    if id == CONFIGURATION {
+        return put_sections(out, next, number, true, s, u, left, a, right, b);
+    }
+    next
 }

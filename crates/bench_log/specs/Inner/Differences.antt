@@ -11,11 +11,12 @@ use Rattle.codec.specs.Technology.{Technology, uwb, cs, nan, rssi, technologyId
 use Rattle.codec.specs.Layout.{Layout, number, octets, counted, Values, value}
 use Rattle.codec.specs.Blocks.{Column, capabilities, configurations, cell}
 use Rattle.codec.specs.Records.{ofRecord}
-use Rattle.codec.specs.Inner.Places.{Roomy}
+use Rattle.codec.specs.Table.{row}
+use Rattle.codec.specs.Inner.Places.{Roomy, Located}
 use Rattle.codec.specs.Inner.Puts.{Put}
 use Rattle.codec.specs.declared.records.Record.{Record}
 use Rattle.bench_log.specs.Text.{ascii}
-use Rattle.bench_log.specs.Fields.{amount, string, prefix, presence}
+use Rattle.bench_log.specs.Fields.{amount, string, prefix, messageIdName, presence}
 use Rattle.bench_log.specs.Comparison.{Difference, difference, differenceLines}
 use Rattle.bench_log.specs.Inner.Coded.{itemsOf, linesLimit}
 
@@ -84,3 +85,19 @@ pub record SectionsReady (k : Column) (s u : ℕ) (l places r others : List ℕ)
   pub left : (t : Technology) → inBoth s u t ≡ true → Roomy (cell k t) 2 (drop (getD places (technologyId t) 0) l)
   pub right : (t : Technology) → inBoth s u t ≡ true → Roomy (cell k t) 2 (drop (getD others (technologyId t) 0) r)
   pub room : at + (sectionLimit k uwb + (sectionLimit k cs + (sectionLimit k nan + sectionLimit k rssi))) ≤ length d
+
+-- ---- two accepted messages, with the places of their blocks
+
+-- the ID is compared first
+unfoldable pub readDifferences : Record → Record → List Difference
+readDifferences a b = cond (eqb (a .id) (b .id)) (messageDifferences a b (row (a .id) .column)) (difference messageIdName (amount (a .id)) (amount (b .id)))
+
+-- their lines take at most so many octets
+abbrev pub messagesLimit : ℕ
+messagesLimit = 2300
+
+pub record MessagesReady (l places r others : List ℕ) (at : ℕ) (d : List ℕ) : Type 0 where
+  pub left : Located l 0 places
+  pub right : Located r 0 others
+  pub octets : Octets l × Octets r
+  pub room : at + messagesLimit ≤ length d
