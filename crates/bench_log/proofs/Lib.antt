@@ -14,3 +14,4 @@ pub mod Lines
 pub mod Counting
 pub mod Records
 pub mod Whole
+pub mod RecordPairs

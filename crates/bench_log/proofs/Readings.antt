@@ -32,8 +32,9 @@ use Rattle.bench_log.specs.LogRecord.{lengthIn, messageIn, keepsLayout, 
 use Rattle.bench_log.specs.Fields.{Contents, amount, string, prefix, messageIdName, presence}
 use Rattle.bench_log.specs.Comparison.{same, alike, Difference, difference, shown, normalFormOf, sameReading}
 use Rattle.bench_log.proofs.Equals.{same-self, same-equal, alike-self, alike-equal}
+use Rattle.bench_log.specs.Inner.Pairs.{directionDifference, headDifferences}
 use Rattle.bench_log.specs.Inner.Differences.{blockDifferences, sectionDifferences, columnDifferences, presenceDifference, messageDifferences}
-use Rattle.bench_log.proofs.Shown.{shownFrom, directionDifference, headDifferences, shown-left, shown-right, shown-ids, shown-messages}
+use Rattle.bench_log.proofs.Shown.{shownFrom, shown-left, shown-right, shown-ids, shown-messages}
 
 -- ---- where nothing differs
 

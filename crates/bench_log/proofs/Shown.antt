@@ -19,7 +19,7 @@ use Rattle.codec.proofs.Outcomes.{by-bool}
 use Rattle.bench_log.specs.Text.{ascii}
 use Rattle.bench_log.specs.Fields.{Contents, amount, string, FieldOf, prefix, blockFields, messageIdName, presence, fieldsIf, columnFields, messageFields, headFields, fieldsFrom}
 use Rattle.bench_log.specs.Comparison.{same, alike, Difference, contentsIn, difference, differing, upTo}
-use Rattle.bench_log.proofs.Equals.{same-self}
+use Rattle.bench_log.specs.Inner.Pairs.{directionDifference, headDifferences}
 use Rattle.bench_log.specs.Inner.Differences.{blockDifferences, sectionDifferences, columnDifferences, presenceDifference, messageDifferences}
 use Rattle.bench_log.proofs.Aligned.{messages-differ}
 
@@ -135,36 +135,30 @@ abbrev pub shownFrom : ℕ → Checked Record → ℕ → Checked Record → Lis
 shownFrom dl l dr r = upTo messageIdName (differing (fieldsFrom dl l) (fieldsFrom dr r))
 
 module _ (dl dr : ℕ) where
-  abbrev pub directionDifference : List Difference
-  directionDifference = difference (ascii "direction") (amount dl) (amount dr)
-
-  abbrev pub headDifferences : (refusalLeft refusalRight : ℕ) → List Difference
-  headDifferences n m = directionDifference ++ difference (ascii "refusal number") (amount n) (amount m)
-
-  kept-direction : Kept directionDifference
+  kept-direction : Kept (directionDifference dl dr)
   kept-direction = kept-one (ascii "direction") (amount dl) (amount dr) refl
 
-  kept-head : (n m : ℕ) → Kept (headDifferences n m)
-  kept-head n m = kept-both directionDifference (difference (ascii "refusal number") (amount n) (amount m)) kept-direction (kept-one (ascii "refusal number") (amount n) (amount m) refl)
+  kept-head : (n m : ℕ) → Kept (headDifferences dl dr n m)
+  kept-head n m = kept-both (directionDifference dl dr) (difference (ascii "refusal number") (amount n) (amount m)) kept-direction (kept-one (ascii "refusal number") (amount n) (amount m) refl)
 
   -- the left one is refused, or the right one
-  head-left : (n m : ℕ) (fs : List FieldOf) → differing (headFields dl n) (headFields dr m ++ fs) ≡ headDifferences n m
+  head-left : (n m : ℕ) (fs : List FieldOf) → differing (headFields dl n) (headFields dr m ++ fs) ≡ headDifferences dl dr n m
   unfolding differing contentsIn
   head-left n m fs = rw (append-nil (difference (ascii "refusal number") (amount n) (amount m)))
 
-  head-right : (n m : ℕ) (fs : List FieldOf) → Each (Apart dr m) fs → differing (headFields dl n ++ fs) (headFields dr m) ≡ headDifferences n m
+  head-right : (n m : ℕ) (fs : List FieldOf) → Each (Apart dr m) fs → differing (headFields dl n ++ fs) (headFields dr m) ≡ headDifferences dl dr n m
   unfolding differing contentsIn
   head-right n m fs h = rw (alone fs (headFields dr m) h, append-nil (difference (ascii "refusal number") (amount n) (amount m)))
 
-  uncut : (n m : ℕ) (ds : List Difference) → ds ≡ headDifferences n m → upTo messageIdName ds ≡ headDifferences n m
+  uncut : (n m : ℕ) (ds : List Difference) → ds ≡ headDifferences dl dr n m → upTo messageIdName ds ≡ headDifferences dl dr n m
   unfolding upTo
-  uncut n m ds e = rw (e, ← append-nil (headDifferences n m)) (kept-head n m [])
+  uncut n m ds e = rw (e, ← append-nil (headDifferences dl dr n m)) (kept-head n m [])
 
-  pub shown-left : (x : Refusal) (r : Checked Record) → shownFrom dl (refuse x) dr r ≡ headDifferences (numberOf x) (answer r .refusal)
+  pub shown-left : (x : Refusal) (r : Checked Record) → shownFrom dl (refuse x) dr r ≡ headDifferences dl dr (numberOf x) (answer r .refusal)
   shown-left x (refuse y) = uncut (numberOf x) (numberOf y) _ (head-left (numberOf x) (numberOf y) [])
   shown-left x (accept b) = uncut (numberOf x) 0 _ (head-left (numberOf x) 0 (messageFields b))
 
-  pub shown-right : (l : Checked Record) (y : Refusal) → shownFrom dl l dr (refuse y) ≡ headDifferences (answer l .refusal) (numberOf y)
+  pub shown-right : (l : Checked Record) (y : Refusal) → shownFrom dl l dr (refuse y) ≡ headDifferences dl dr (answer l .refusal) (numberOf y)
   shown-right (refuse x) y = uncut (numberOf x) (numberOf y) _ (head-left (numberOf x) (numberOf y) [])
   shown-right (accept a) y = uncut 0 (numberOf y) _ (head-right 0 (numberOf y) (messageFields a) (apart-message dr (numberOf y) a))
 
@@ -178,15 +172,15 @@ module _ (dl dr : ℕ) where
     unfolding upTo difference
     id-last ds n = rw (ne-eqb (a .id) (b .id) n)
 
-    pub shown-ids : (a .id ≡ b .id → ⊥) → shownFrom dl (accept a) dr (accept b) ≡ directionDifference ++ idDifference
+    pub shown-ids : (a .id ≡ b .id → ⊥) → shownFrom dl (accept a) dr (accept b) ≡ directionDifference dl dr ++ idDifference
     unfolding differing contentsIn messageFields difference
     shown-ids n = kept-direction (idDifference ++ _) ∙ rw (id-last _ n)
 
-    pub shown-messages : a .id ≡ b .id → shownFrom dl (accept a) dr (accept b) ≡ directionDifference ++ messageDifferences a b (row (a .id) .column)
+    pub shown-messages : a .id ≡ b .id → shownFrom dl (accept a) dr (accept b) ≡ directionDifference dl dr ++ messageDifferences a b (row (a .id) .column)
     unfolding upTo difference
     shown-messages e =
         let c = row (a .id) .column in
         let f : row (b .id) .column ≡ c = ap (λ (i : ℕ). row i .column) (sym e) in
         let ds = messageDifferences a b c in
         rw (messages-differ a b dl dr c refl f, eq-eqb (a .id) (b .id) e)
-        (kept-direction ds ∙ ap (λ (x : List Difference). directionDifference ++ x) (ap (upTo messageIdName) (sym (append-nil ds)) ∙ kept-message a b c [] ∙ append-nil ds))
+        (kept-direction ds ∙ ap (λ (x : List Difference). directionDifference dl dr ++ x) (ap (upTo messageIdName) (sym (append-nil ds)) ∙ kept-message a b c [] ∙ append-nil ds))

@@ -1,3 +1,4 @@
 -- What the contracts of inner functions cite. No contract of a public function rests on it, and no theorem does.
 pub mod Coded
 pub mod Differences
+pub mod Pairs

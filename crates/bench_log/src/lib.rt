@@ -6,6 +6,7 @@ mod entry;
 mod layout;
 mod listing;
 mod messages;
+mod pair;
 mod same;
 mod sections;
 mod text;

@@ -1,0 +1,120 @@
+// What is said of a pair of log records.
+use crate::difference::put_numbers;
+use crate::layout::take_apart;
+use crate::messages::put_messages;
+use crate::same::same;
+use crate::text::put_number;
+use crate::text::put_text;
+use codec::MESSAGE_LIMIT;
+ghost use mathlib.Core.Path.{_≡_};
+ghost use mathlib.Core.List.{_++_};
+ghost use Prim.Native.Nat.{_+_, _≤_};
+ghost use lib.ListN.{length};
+ghost use Rattle.codec.specs.Octets.{Octets};
+ghost use Rattle.codec.specs.Inner.Puts.{Put};
+ghost use Rattle.bench_log.specs.Comparison.{shown, differenceLines, pairLines, pairKind, pairLimit};
+ghost use Rattle.bench_log.specs.Inner.Pairs.{Sees, headDifferences};
+
+// What is seen of a record: its direction and its refusal, and if it is accepted where its message ends and its blocks begin.
+pub(crate) struct Seen {
+    direction: u8,
+    refusal: u8,
+    end: usize,
+    places: [u16; 5],
+}
+
+// The place after the lines of a pair, and what kind they say it is: 0 same octets, 1 same reading, 2 different.
+pub(crate) struct Said {
+    pub end: usize,
+    pub kind: u8,
+}
+
+fn look_at(octets: &[u8]) -> Seen
+    ensures { λ r. ⌜ Sees (now (octets .entry)) r ⌝ }
+{
+    let parts = take_apart(octets, MESSAGE_LIMIT);
+    if parts.refusal != 0 {
+        return Seen {
+            direction: 0,
+            refusal: parts.refusal,
+            end: 0,
+            places: [0; 5],
+        };
+    }
+    let end = 4 + parts.length;
+    let found = codec::find(&octets[4..end]);
+    let places = found.places;
+    Seen {
+        direction: parts.direction,
+        refusal: found.fault,
+        end,
+        places,
+    }
+}
+
+fn wide(x: u8) -> u64
+    ensures { λ r. ⌜ r ≡ x ⌝ }
+{
+    x as u64
+}
+
+// The lines of the directions and the refusal numbers.
+fn put_heads(
+    out: &mut [u8],
+    at: usize,
+    number: u64,
+    left: u8,
+    right: u8,
+    refusal: u8,
+    other: u8,
+) -> usize
+    requires { ⌜ at + 177 ≤ length (now out) ⌝ }
+    ensures { λ r. ⌜ Put (now (out .entry)) at (differenceLines number (headDifferences left right refusal other)) (now (out .exit)) r × (r ≤ at + 177) ⌝ }
+{
+    let next = put_numbers(out, at, number, b"", b"direction", wide(left), wide(right));
+    put_numbers(
+        out,
+        next,
+        number,
+        b"",
+        b"refusal number",
+        wide(refusal),
+        wide(other),
+    )
+}
+
+// The lines of the fields that both have and that differ.
+fn put_differences(out: &mut [u8], at: usize, number: u64, left: &[u8], right: &[u8]) -> usize
+    requires { ⌜ at + 2480 ≤ length (now out) ⌝ }
+    ensures { λ r. ⌜ (Octets (now (left .entry)) × Octets (now (right .entry)))
+        × (Put (now (out .entry)) at (differenceLines number (shown (now (left .entry)) (now (right .entry)))) (now (out .exit)) r × (r ≤ at + 2480)) ⌝ }
+{
+    let l = look_at(left);
+    let r = look_at(right);
+    let next = put_heads(
+        out,
+        at,
+        number,
+        l.direction,
+        r.direction,
+        l.refusal,
+        r.refusal,
+    );
+    if l.refusal != 0 {
+        return next;
+    }
+    if r.refusal != 0 {
+        return next;
+    }
+    let x = l.end;
+    let y = r.end;
+    put_messages(
+        out,
+        next,
+        number,
+        &left[4..x],
+        &l.places,
+        &right[4..y],
+        &r.places,
+    )
+}
