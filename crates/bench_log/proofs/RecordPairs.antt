@@ -2,9 +2,10 @@
 use Prim.Native.Nat.{ℕ, _+_, _-_, _≤_}
 use native.Mathlib.Omega.{arith}
 use mathlib.Core.Path.{_≡_, refl, sym, ap, _∙_, subst}
-use mathlib.Core.List.{List, [], _++_, append-nil}
+use mathlib.Core.List.{List, [], _∷_, _++_, map, flatten, append-nil}
+use mathlib.Core.Bool.{true, false}
 use lib.Dec.{eqb}
-use lib.ListN.{length}
+use lib.ListN.{length, length-append}
 use borrow.Author.Tests.{eq-eqb, eqb-true, eqb-false}
 use Rattle.codec.specs.Refusal.{Refusal, Checked, refuse, accept, numberOf, andThen, brokenRecord}
 use Rattle.codec.specs.Octets.{Octets, part}
@@ -19,7 +20,8 @@ use Rattle.codec.proofs.Outcomes.{by-bool, no-zero}
 use Rattle.codec.proofs.Puts.{put-then}
 use Rattle.codec.proofs.Laws.{octets-part}
 use Rattle.bench_log.specs.LogRecord.{Held, takenApart, partsOf, readingOf, directionOf}
-use Rattle.bench_log.specs.Comparison.{Difference, difference, shown, differenceLines}
+use Rattle.bench_log.specs.Text.{ascii, decimal}
+use Rattle.bench_log.specs.Comparison.{same, Difference, difference, shown, sameReading, shownContents, differenceLine, differenceLines, pairLines, pairKind}
 use Rattle.bench_log.specs.Inner.Pairs.{directionDifference, headDifferences, Holds, Sees}
 use Rattle.bench_log.specs.Inner.Differences.{readDifferences, MessagesReady, messagesLimit}
 use Rattle.bench_log.specs.declared.layout.Parts.{Parts}
@@ -27,6 +29,7 @@ use Rattle.bench_log.specs.declared.pair.Seen.{Seen}
 use Rattle.bench_log.proofs.Entries.{Apart, apart, broken}
 use Rattle.bench_log.proofs.Shown.{shownFrom, shown-left, shown-right, shown-ids, shown-messages}
 use Rattle.bench_log.proofs.Differences.{lines-append}
+use Rattle.bench_log.proofs.Readings.{same-exactly}
 
 -- ---- what is seen of a record
 
@@ -117,3 +120,28 @@ module _ {l r : List ℕ} {s t : Seen} (x : Sees l s) (y : Sees r t) where
     put-read n a b =
         let head : headDifferences (s .direction) (t .direction) (s .refusal) (t .refusal) ≡ directionDifference (s .direction) (t .direction) = rw (f, g) (append-nil (directionDifference (s .direction) (t .direction))) in
         rw (shown-read, lines-append n (directionDifference (s .direction) (t .direction)) (readDifferences (recordAt ml (s .places)) (recordAt mr (t .places)))) (put-then (rw head at a) b)
+
+-- ---- what is said of a pair
+
+-- lines that take no octet are none
+nothing : (n : ℕ) (ds : List Difference) → length (differenceLines n ds) ≡ 0 → ds ≡ []
+unfolding differenceLines flatten differenceLine
+nothing n [] e = refl
+nothing n (d ∷ ds) e = absurd (omega (arith, e, length-append (differenceLine n d) (flatten (map (differenceLine n) ds)), length-append (decimal n) (ascii " " ++ (d .name ++ (ascii ": left " ++ (shownContents (d .left) ++ (ascii ", right " ++ (shownContents (d .right) ++ ascii "\n"))))))))
+
+module _ (n : ℕ) (l r : List ℕ) {d e : List ℕ} {at p : ℕ} (other : same l r ≡ false) (o : Octets l × Octets r) (put : Put d at (differenceLines n (shown l r)) e p) where
+  -- nothing was laid out
+  pub said-same : p ≡ at → (shown l r ≡ []) × (sameReading l r ≡ true)
+  said-same z = let x = nothing n (shown l r) (omega (arith, put .place)) in (x, same-exactly l r (o .0) (o .1) .1 x)
+
+  pub put-same : {f : List ℕ} {q : ℕ} → p ≡ at → Put e at (decimal n ++ ascii " same reading\n") f q → Put d at (pairLines n l r) f q × (1 ≡ pairKind l r)
+  unfolding differenceLines flatten
+  put-same {f} {q} z w =
+      let s = said-same z in
+      (rw (other, s .1) (put-then (rw (s .0, z) at put) w), rw (other, s .1))
+
+  pub put-different : (p ≡ at → ⊥) → Put d at (pairLines n l r) e p × (2 ≡ pairKind l r)
+  unfolding differenceLines flatten
+  put-different z =
+      let s : sameReading l r ≡ false = by-bool (sameReading l r) (λ y. absurd (z (put .place ∙ rw (same-exactly l r (o .0) (o .1) .0 y) (omega arith)))) (λ y. y) in
+      (rw (other, s) put, rw (other, s))

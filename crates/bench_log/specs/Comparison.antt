@@ -18,7 +18,7 @@ use Rattle.bench_log.specs.Text.{ascii, decimal, hexadecimal}
 use Rattle.bench_log.specs.Listing.{field, entryText}
 use Rattle.bench_log.specs.Fields.{Contents, amount, string, FieldOf, messageIdName, fieldsOf}
 use Rattle.bench_log.specs.declared.comparison.Side.{Side}
-use Rattle.bench_log.specs.declared.comparison.Kinds.{Kinds}
+use Rattle.bench_log.specs.declared.kinds.Kinds.{Kinds}
 use Rattle.bench_log.specs.declared.comparison.Compared.{Compared}
 
 abbrev pub same : List ℕ → List ℕ → Bool

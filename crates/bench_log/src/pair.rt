@@ -1,5 +1,8 @@
 // What is said of a pair of log records.
 use crate::difference::put_numbers;
+use crate::kinds::DIFFERENT;
+use crate::kinds::SAME_OCTETS;
+use crate::kinds::SAME_READING;
 use crate::layout::take_apart;
 use crate::messages::put_messages;
 use crate::same::same;
@@ -12,6 +15,7 @@ ghost use Prim.Native.Nat.{_+_, _≤_};
 ghost use lib.ListN.{length};
 ghost use Rattle.codec.specs.Octets.{Octets};
 ghost use Rattle.codec.specs.Inner.Puts.{Put};
+ghost use Rattle.bench_log.specs.Text.{decimal};
 ghost use Rattle.bench_log.specs.Comparison.{shown, differenceLines, pairLines, pairKind, pairLimit};
 ghost use Rattle.bench_log.specs.Inner.Pairs.{Sees, headDifferences};
 
@@ -23,7 +27,7 @@ pub(crate) struct Seen {
     places: [u16; 5],
 }
 
-// The place after the lines of a pair, and what kind they say it is: 0 same octets, 1 same reading, 2 different.
+// The place after the lines of a pair, and its kind.
 pub(crate) struct Said {
     pub end: usize,
     pub kind: u8,
@@ -117,4 +121,40 @@ fn put_differences(out: &mut [u8], at: usize, number: u64, left: &[u8], right: &
         &right[4..y],
         &r.places,
     )
+}
+
+// A record's number, and words.
+fn put_words(out: &mut [u8], at: usize, number: u64, words: &[u8]) -> usize
+    requires { ⌜ at + 20 + length (now words) ≤ length (now out) ⌝ }
+    ensures { λ r. ⌜ Put (now (out .entry)) at (decimal number ++ now (words .entry)) (now (out .exit)) r × (r ≤ at + 20 + length (now (words .entry))) ⌝ }
+{
+    let next = put_number(out, at, number);
+    put_text(out, next, words)
+}
+
+// The lines of a pair.
+pub(crate) fn put_pair(out: &mut [u8], at: usize, number: u64, left: &[u8], right: &[u8]) -> Said
+    requires { ⌜ at + pairLimit ≤ length (now out) ⌝ }
+    ensures { λ r. ⌜ Put (now (out .entry)) at (pairLines number (now (left .entry)) (now (right .entry))) (now (out .exit)) (r .end)
+        × (r .end ≤ at + pairLimit) × (r .kind ≡ pairKind (now (left .entry)) (now (right .entry))) ⌝ }
+{
+    if same(left, right) {
+        let end = put_words(out, at, number, b" same octets\n");
+        return Said {
+            end,
+            kind: SAME_OCTETS,
+        };
+    }
+    let next = put_differences(out, at, number, left, right);
+    if next == at {
+        let end = put_words(out, at, number, b" same reading\n");
+        return Said {
+            end,
+            kind: SAME_READING,
+        };
+    }
+    Said {
+        end: next,
+        kind: DIFFERENT,
+    }
 }

@@ -11,7 +11,7 @@ pub struct Totals {
     pub refused: u64,
 }
 
-fn one_more(n: u64) -> u64
+pub(crate) fn one_more(n: u64) -> u64
     ensures { λ r. ⌜ r ≡ oneMore n ⌝ }
 {
     std::num::wrapping_add_u64(n, 1)
