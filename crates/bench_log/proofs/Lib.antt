@@ -15,3 +15,4 @@ pub mod Counting
 pub mod Records
 pub mod Whole
 pub mod RecordPairs
+pub mod Positions

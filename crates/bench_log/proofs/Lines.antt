@@ -1,5 +1,5 @@
 -- Laws of lines: how long they are, and laying them out.
-use Prim.Native.Nat.{ℕ, _+_, _-_, _*_, _^_, _≤_, _<_}
+use Prim.Native.Nat.{ℕ, _+_, _-_, _*_, _≤_, _<_}
 use native.Mathlib.Omega.{arith}
 use mathlib.Core.Path.{_≡_, subst}
 use mathlib.Core.List.{List}
@@ -15,7 +15,7 @@ use Rattle.codec.specs.Octets.{part}
 use Rattle.bench_log.specs.LogRecord.{recordSize, recordsIn, entryOf}
 use Rattle.bench_log.specs.Items.{Tells}
 use Rattle.bench_log.specs.Totals.{counted}
-use Rattle.bench_log.specs.Listing.{letter, verdict, line, lastLine, listable, lineLimit, nextLine, nextTotals, Lists}
+use Rattle.bench_log.specs.Listing.{letter, verdict, line, lastLine, listable, nextLine, nextTotals, Lists}
 use Rattle.bench_log.specs.declared.entry.Entry.{Entry}
 use Rattle.bench_log.specs.declared.totals.Totals.{Totals}
 use Rattle.bench_log.proofs.Decimals.{few-digits}
@@ -37,11 +37,9 @@ module _ (e : Entry) where
   pub verdict-refused : (e .refusal ≡ 0 → ⊥) → length (verdict e) ≡ 8 + length (decimal (e .refusal))
   verdict-refused z = rw (ne-eqb _ _ z) (simp length-append)
 
--- the parts of a line fit the longest one
-pub line-limit : (n : ℕ) (e : Entry) → n < 2 ^ 64 → e .refusal < 256 → e .id < 256 → e .set < 65536
-    → (length (letter (e .direction)) ≡ 3) × (length (decimal n) + 3 + length (verdict e) + 1 ≤ lineLimit)
-line-limit n e f r i s =
-    let a = few-digits 19 n (omega arith) in
+-- what a line says after the number
+pub entry-limit : (e : Entry) → e .refusal < 256 → e .id < 256 → e .set < 65536 → (length (letter (e .direction)) ≡ 3) × (3 + length (verdict e) + 1 ≤ 15)
+entry-limit e r i s =
     let b = few-digits 2 (e .refusal) (omega arith) in
     let c = few-digits 2 (e .id) (omega arith) in
     let d = few-digits 4 (e .set) (omega arith) in (

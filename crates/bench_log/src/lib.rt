@@ -14,7 +14,10 @@ mod text;
 mod totals;
 
 pub use comparison::Compared;
+pub use comparison::ONLY_LIMIT;
+pub use comparison::PAIR_LIMIT;
 pub use comparison::Side;
+pub use comparison::compare;
 pub use entry::Entry;
 pub use entry::entry_of;
 pub use kinds::Kinds;

@@ -5,6 +5,7 @@ use crate::layout::RECORD_SIZE;
 use crate::text::decimal_length;
 use crate::text::put;
 use crate::text::put_decimal;
+use crate::text::put_number;
 use crate::text::put_text;
 use crate::totals::Totals;
 use crate::totals::counted;
@@ -17,7 +18,7 @@ ghost use lib.ListN.{length};
 ghost use Rattle.codec.specs.Inner.Puts.{Put};
 ghost use Rattle.codec.specs.Writing.{fitting, LaysOut};
 ghost use Rattle.bench_log.specs.Text.{decimal};
-ghost use Rattle.bench_log.specs.Listing.{letter, verdict, line, lastLine, lineLimit, Lists};
+ghost use Rattle.bench_log.specs.Listing.{letter, verdict, entryText, line, lastLine, lineLimit, Lists};
 
 // No line of a record is longer: 20 digits, a letter between spaces, `refused 255` and the newline.
 pub const LINE_LIMIT: usize = 35;
@@ -40,7 +41,7 @@ fn put_letter(out: &mut [u8], at: usize, direction: u8) -> usize
 }
 
 // A word and a number.
-fn put_field(out: &mut [u8], at: usize, word: &[u8], n: u64) -> usize
+pub(crate) fn put_field(out: &mut [u8], at: usize, word: &[u8], n: u64) -> usize
     requires { ⌜ at + length (now word) + length (decimal n) ≤ length (now out) ⌝ }
     ensures { λ r. ⌜ Put (now (out .entry)) at (now (word .entry) ++ decimal n) (now (out .exit)) r ⌝ }
 {
@@ -60,18 +61,26 @@ fn put_verdict(out: &mut [u8], at: usize, e: Entry) -> usize
     put_field(out, at, b"refused ", e.refusal as u64)
 }
 
+// What a line says after the number.
+pub(crate) fn put_entry(out: &mut [u8], at: usize, e: Entry) -> usize
+    requires { ⌜ at + 15 ≤ length (now out) ⌝ }
+    ensures { λ r. ⌜ Put (now (out .entry)) at (entryText e) (now (out .exit)) r × (r ≤ at + 15) ⌝ }
+{
+    let verdict = put_letter(out, at, e.direction);
+    let end = put_verdict(out, verdict, e);
+    put(out, end, b'\n')
+}
+
 // The line of a record.
 fn put_line(out: &mut [u8], at: usize, number: u64, e: Entry) -> usize
     requires { ⌜ at + lineLimit ≤ length (now out) ⌝ }
     ensures { λ r. ⌜ Put (now (out .entry)) at (line number e) (now (out .exit)) r × (r ≤ at + lineLimit) ⌝ }
 {
-    let letter = put_decimal(out, at, number);
-    let verdict = put_letter(out, letter, e.direction);
-    let end = put_verdict(out, verdict, e);
-    put(out, end, b'\n')
+    let letter = put_number(out, at, number);
+    put_entry(out, letter, e)
 }
 
-fn least(a: usize, b: usize) -> usize
+pub(crate) fn least(a: usize, b: usize) -> usize
     ensures { λ r. ⌜ r ≡ min a b ⌝ }
 {
     if a < b { a } else { b }
