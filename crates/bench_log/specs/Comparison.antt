@@ -150,18 +150,25 @@ kinds ps = record {
 
 -- ---- of two whole logs
 
--- `left` and `right` are the numbers of octets of partial last records, which are left out
-unfoldable pub sumLine : Kinds → (left right : ℕ) → List ℕ
-sumLine k left right =
+-- what the last line says of the pairs
+unfoldable pub pairsText : Kinds → List ℕ
+pairsText k =
     field "pairs " (k .pairs)
     ++ (field " same octets " (k .«same_octets»)
     ++ (field " same reading " (k .«same_reading»)
-    ++ (field " different " (k .different)
-    ++ (field " only left " (k .«only_left»)
+    ++ field " different " (k .different)))
+
+-- and of the rest: `left` and `right` are the numbers of octets of partial last records, which are left out
+unfoldable pub restText : Kinds → (left right : ℕ) → List ℕ
+restText k left right =
+    field " only left " (k .«only_left»)
     ++ (field " only right " (k .«only_right»)
     ++ (field " left tail " left
     ++ (field " right tail " right
-    ++ ascii "\n")))))))
+    ++ ascii "\n")))
+
+unfoldable pub sumLine : Kinds → (left right : ℕ) → List ℕ
+sumLine k left right = pairsText k ++ restText k left right
 
 abbrev pub comparison : (left right : List ℕ) → List ℕ
 comparison left right =

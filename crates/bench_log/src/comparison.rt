@@ -24,7 +24,8 @@ ghost use Rattle.codec.specs.Inner.Puts.{Put};
 ghost use Rattle.codec.specs.Writing.{fitting, LaysOut};
 ghost use Rattle.bench_log.specs.Text.{decimal};
 ghost use Rattle.bench_log.specs.Listing.{entryText};
-ghost use Rattle.bench_log.specs.Comparison.{sideText, sideKind, onlyLimit, sumLine, Compares, TellsOnly};
+ghost use Rattle.bench_log.specs.Inner.Pairs.{kindText};
+ghost use Rattle.bench_log.specs.Comparison.{sideKind, onlyLimit, pairsText, restText, sumLine, Compares, TellsOnly};
 
 // No pair takes more octets: the lines of all fields of two Configurations, with the longest numbers, keys and names.
 pub const PAIR_LIMIT: usize = 2560;
@@ -70,4 +71,113 @@ pub fn compare(left: &[u8], right: &[u8], before: Kinds, out: &mut [u8]) -> Comp
         i += 1;
     }
     Compared { kinds, length }
+}
+
+fn side_kind(side: Side) -> u8
+    ensures { λ r. ⌜ r ≡ sideKind side ⌝ }
+{
+    match side {
+        Side::Left => ONLY_LEFT,
+        Side::Right => ONLY_RIGHT,
+    }
+}
+
+fn put_side(out: &mut [u8], at: usize, kind: u8) -> usize
+    requires { ⌜ at + 12 ≤ length (now out) ⌝ }
+    ensures { λ r. ⌜ Put (now (out .entry)) at (kindText kind) (now (out .exit)) r × (r ≤ at + 12) ⌝ }
+{
+    if kind == ONLY_LEFT {
+        return put_text(out, at, b" only left:");
+    }
+    put_text(out, at, b" only right:")
+}
+
+// The line of a record that only one side has.
+fn put_only(out: &mut [u8], at: usize, number: u64, kind: u8, e: Entry) -> usize
+    requires { ⌜ at + onlyLimit ≤ length (now out) ⌝ }
+    ensures { λ r. ⌜ Put (now (out .entry)) at (decimal number ++ (kindText kind ++ entryText e)) (now (out .exit)) r × (r ≤ at + onlyLimit) ⌝ }
+{
+    let words = put_number(out, at, number);
+    let entry = put_side(out, words, kind);
+    put_entry(out, entry, e)
+}
+
+// Lists the whole records of a piece that only one side has, after the positions counted before, as many as `out` has room for at the
+// longest line each.
+pub fn only(side: Side, piece: &[u8], before: Kinds, out: &mut [u8]) -> Compared
+    ensures { λ r. ⌜ TellsOnly side (now (piece .entry)) before (now (out .entry)) r (now (out .exit)) ⌝ }
+{
+    let count = least(piece.len() / RECORD_SIZE, out.len() / ONLY_LIMIT);
+    let kind = side_kind(side);
+    let mut kinds = before;
+    let mut length = 0;
+    let mut i = 0;
+    while i < count {
+        let at = i * RECORD_SIZE;
+        let e = entry_of(&piece[at..at + RECORD_SIZE]);
+        length = put_only(out, length, kinds.positions, kind, e);
+        kinds = counted(kinds, kind);
+        i += 1;
+    }
+    Compared { kinds, length }
+}
+
+// What the last line says of the pairs.
+fn put_pairs(out: &mut [u8], kinds: Kinds) -> usize
+    requires { ⌜ length (pairsText kinds) ≤ length (now out) ⌝ }
+    ensures { λ r. ⌜ Put (now (out .entry)) 0 (pairsText kinds) (now (out .exit)) r ⌝ }
+{
+    let octets = put_field(out, 0, b"pairs ", kinds.pairs);
+    let reading = put_field(out, octets, b" same octets ", kinds.same_octets);
+    let different = put_field(out, reading, b" same reading ", kinds.same_reading);
+    put_field(out, different, b" different ", kinds.different)
+}
+
+// And of the rest.
+fn put_rest(out: &mut [u8], at: usize, kinds: Kinds, left: u64, right: u64) -> usize
+    requires { ⌜ at + length (restText kinds left right) ≤ length (now out) ⌝ }
+    ensures { λ r. ⌜ Put (now (out .entry)) at (restText kinds left right) (now (out .exit)) r ⌝ }
+{
+    let only_right = put_field(out, at, b" only left ", kinds.only_left);
+    let left_tail = put_field(out, only_right, b" only right ", kinds.only_right);
+    let right_tail = put_field(out, left_tail, b" left tail ", left);
+    let end = put_field(out, right_tail, b" right tail ", right);
+    put(out, end, b'\n')
+}
+
+// The words take 44 octets.
+fn pairs_length(kinds: Kinds) -> usize
+    ensures { λ r. ⌜ (r ≡ length (pairsText kinds)) × (r ≤ 124) ⌝ }
+{
+    44
+        + decimal_length(kinds.pairs)
+        + decimal_length(kinds.same_octets)
+        + decimal_length(kinds.same_reading)
+        + decimal_length(kinds.different)
+}
+
+// The words and the newline take 47 octets.
+fn rest_length(kinds: Kinds, left: u64, right: u64) -> usize
+    ensures { λ r. ⌜ (r ≡ length (restText kinds left right)) × (r ≤ 127) ⌝ }
+{
+    47
+        + decimal_length(kinds.only_left)
+        + decimal_length(kinds.only_right)
+        + decimal_length(left)
+        + decimal_length(right)
+}
+
+// Lays out the last line of a comparison, where partial last records have `left` and `right` octets.
+pub fn sum_line(kinds: Kinds, left: u64, right: u64, out: &mut [u8]) -> Written
+    ensures { λ r. ⌜ LaysOut (fitting (sumLine kinds left right) (length (now (out .entry)))) (now (out .entry)) r (now (out .exit)) ⌝ }
+{
+    if out.len() < pairs_length(kinds) + rest_length(kinds, left, right) {
+        return Written {
+            refusal: BUFFER_TOO_SHORT,
+            length: 0,
+        };
+    }
+    let rest = put_pairs(out, kinds);
+    let length = put_rest(out, rest, kinds, left, right);
+    Written { refusal: 0, length }
 }

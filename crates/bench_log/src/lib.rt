@@ -18,6 +18,8 @@ pub use comparison::ONLY_LIMIT;
 pub use comparison::PAIR_LIMIT;
 pub use comparison::Side;
 pub use comparison::compare;
+pub use comparison::only;
+pub use comparison::sum_line;
 pub use entry::Entry;
 pub use entry::entry_of;
 pub use kinds::Kinds;

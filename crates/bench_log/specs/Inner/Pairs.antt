@@ -2,6 +2,8 @@
 use Prim.Native.Nat.{ℕ, _-_, _≤_}
 use mathlib.Core.Path.{_≡_}
 use mathlib.Core.List.{List, _++_}
+use mathlib.Core.Bool.{cond}
+use lib.Dec.{eqb}
 use lib.ListN.{length}
 use Rattle.codec.specs.Octets.{part}
 use Rattle.codec.specs.Records.{answer}
@@ -30,3 +32,7 @@ pub record Sees (r : List ℕ) (s : Seen) : Type 0 where
   pub direction : s .direction ≡ directionOf r
   pub refusal : s .refusal ≡ answer (readingOf r) .refusal
   pub holds : s .refusal ≡ 0 → Holds r (s .end) (s .places)
+
+-- the words of a record that only one side has, by its kind
+unfoldable pub kindText : ℕ → List ℕ
+kindText kind = cond (eqb kind 3) (ascii " only left:") (ascii " only right:")
