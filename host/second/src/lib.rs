@@ -4,8 +4,10 @@
 #![forbid(unsafe_code)]
 
 mod blocks;
+mod entry;
 mod listing;
 mod log;
+mod log_reader;
 mod reader;
 mod record;
 mod refusal;

@@ -1,74 +1,35 @@
 //! The listing of a bench log: a line for each record, then a line of counts.
 
-use crate::log::*;
-use crate::reader::read;
-use crate::record::Record;
-use crate::refusal::Refusal;
-use std::io::{self, BufWriter, ErrorKind, Read, Write};
-
-/// So many records are read at once.
-const AT_ONCE: usize = 256;
+use crate::entry::Entry;
+use crate::log_reader::LogReader;
+use std::io::{self, BufWriter, Read, Write};
 
 /// Lists the log that is the input.
-pub fn list(mut input: impl Read, output: impl Write) -> io::Result<()> {
+pub fn list(input: impl Read, output: impl Write) -> io::Result<()> {
+    let mut log = LogReader::new(input);
     let mut output = BufWriter::new(output);
-    let mut buffer = vec![0; AT_ONCE * LOG_RECORD_SIZE];
     let (mut accepted, mut refused) = (0u64, 0u64);
-    loop {
-        let filled = fill(&mut input, &mut buffer)?;
-        let (records, tail) = log_records(&buffer[..filled]);
-        for record in records {
-            let number = accepted + refused;
-            let (direction, reading) = reading(record);
-            let letter = if direction == FROM_TAG { 't' } else { 'i' };
-            match reading {
-                Ok(record) => {
-                    accepted += 1;
-                    writeln!(output, "{number} {letter} {} {}", record.id, record.set)?;
-                }
-                Err(refusal) => {
-                    refused += 1;
-                    writeln!(output, "{number} {letter} refused {}", refusal.number())?;
-                }
-            }
-        }
-        if filled < buffer.len() {
-            let (records, tail) = (accepted + refused, tail.len());
-            writeln!(
-                output,
-                "records {records} accepted {accepted} refused {refused} tail {tail}"
-            )?;
-            return output.flush();
+    while let Some(record) = log.next_record()? {
+        let entry = Entry::of(record);
+        writeln!(output, "{} {entry}", accepted + refused)?;
+        match entry.reading {
+            Ok(_) => accepted += 1,
+            Err(_) => refused += 1,
         }
     }
-}
-
-/// Reads until the buffer is full or the input ends; returns how many octets.
-fn fill(input: &mut impl Read, buffer: &mut [u8]) -> io::Result<usize> {
-    let mut filled = 0;
-    while filled < buffer.len() {
-        match input.read(&mut buffer[filled..]) {
-            Ok(0) => break,
-            Ok(count) => filled += count,
-            Err(error) if error.kind() == ErrorKind::Interrupted => {}
-            Err(error) => return Err(error),
-        }
-    }
-    Ok(filled)
-}
-
-/// Direction and reading of a record's message. A broken record counts as one
-/// to the tag.
-fn reading(record: &LogRecord) -> (u8, Result<Record, Refusal>) {
-    match logged(record) {
-        Some((direction, message)) => (direction, read(message)),
-        None => (TO_TAG, Err(Refusal::BrokenRecord)),
-    }
+    let (records, tail) = (accepted + refused, log.tail());
+    writeln!(
+        output,
+        "records {records} accepted {accepted} refused {refused} tail {tail}"
+    )?;
+    output.flush()
 }
 
 #[cfg(test)]
 mod tests {
     use super::*;
+    use crate::log::*;
+    use std::io::ErrorKind;
 
     fn listed(log: impl Read) -> String {
         let mut output = Vec::new();
@@ -132,48 +93,9 @@ mod tests {
         assert_eq!(listed(&log[..]), "0 t 0 5\nrecords 1 accepted 1 refused 0 tail 0\n");
     }
 
-    /// Gives few octets at a time and is often interrupted.
-    struct Slow<'a> {
-        log: &'a [u8],
-        calls: usize,
-    }
-
-    impl Read for Slow<'_> {
-        fn read(&mut self, buffer: &mut [u8]) -> io::Result<usize> {
-            self.calls += 1;
-            if self.calls.is_multiple_of(3) {
-                return Err(ErrorKind::Interrupted.into());
-            }
-            let count = buffer.len().min(1 + self.calls % 301);
-            self.log.read(&mut buffer[..count])
-        }
-    }
-
     #[test]
-    fn short_reads_and_many_records() {
-        for count in [AT_ONCE - 1, AT_ONCE, AT_ONCE + 1, 2 * AT_ONCE, 2 * AT_ONCE + 1] {
-            for tail in [0, 1, 259] {
-                let log = &example().repeat(count)[..count * LOG_RECORD_SIZE + tail];
-                let text = listed(log);
-                assert_eq!(text.lines().count(), count + 1);
-                assert!(text.ends_with(&format!(" tail {tail}\n")));
-                assert_eq!(listed(Slow { log, calls: 0 }), text);
-            }
-        }
-    }
-
-    #[test]
-    fn errors() {
-        struct Failing;
-        impl Read for Failing {
-            fn read(&mut self, _: &mut [u8]) -> io::Result<usize> {
-                Err(ErrorKind::PermissionDenied.into())
-            }
-        }
-        let error = list(Failing, io::sink()).unwrap_err();
-        assert_eq!(error.kind(), ErrorKind::PermissionDenied);
-        let mut no_room = [0; 10];
-        let error = list(&example()[..], &mut no_room[..]).unwrap_err();
+    fn no_room() {
+        let error = list(&example()[..], &mut [0; 10][..]).unwrap_err();
         assert_eq!(error.kind(), ErrorKind::WriteZero);
     }
 }
