@@ -1,9 +1,12 @@
 //! Second, independent implementation of the ranging tag: reader, block listing
-//! and writer of the six messages of version 1, the tag's session and the
-//! listing of a bench log, written from the customer's papers alone.
+//! and writer of the six messages of version 1, the tag's session, the listing
+//! of a bench log and the comparison of two, written from the customer's papers
+//! alone.
 #![forbid(unsafe_code)]
 
 mod blocks;
+mod comparison;
+mod differences;
 mod entry;
 mod listing;
 mod log;
@@ -16,6 +19,7 @@ mod valid;
 mod writer;
 
 pub use blocks::{blocks, Block};
+pub use comparison::compare;
 pub use listing::list;
 pub use log::*;
 pub use reader::read;
