@@ -21,3 +21,4 @@ pub mod random;
 mod reached;
 pub mod sessions;
 pub mod shapes;
+mod texts;

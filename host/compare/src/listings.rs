@@ -5,6 +5,7 @@ use crate::lines::{count_log, due, Line, Outcome};
 use crate::logs::{self, Log};
 use crate::program::Program;
 use crate::random::Random;
+use crate::texts::difference;
 use second::LOG_RECORD_SIZE;
 use std::io;
 use std::process::Output;
@@ -97,21 +98,9 @@ impl Listings<'_> {
 
 /// Compares what the program printed with the other's listing. The error has the first line that differs and its record.
 fn same(feed: &str, log: &Log, proved: &Output, plain: &[u8]) -> Result<(), String> {
-    if proved.stdout == plain && proved.status.success() {
+    let Some((number, what)) = difference(proved, plain) else {
         return Ok(());
-    }
-    let (ours, theirs) = (lines(&proved.stdout), lines(plain));
-    let number = ours.iter().zip(&theirs).take_while(|(one, other)| one == other).count();
-    let [one, other] = [&ours, &theirs].map(|lines| lines.get(number).map(|line| String::from_utf8_lossy(line)));
+    };
     let record = log.octets.chunks(LOG_RECORD_SIZE).nth(number).unwrap_or(&[]);
-    Err(format!(
-        "{feed}, {}, line {number}: proved {one:?}, second {other:?}, record {}",
-        proved.status,
-        hex(record)
-    ))
-}
-
-/// The lines with their ends.
-fn lines(listing: &[u8]) -> Vec<&[u8]> {
-    listing.split_inclusive(|octet| *octet == b'\n').collect()
+    Err(format!("{feed}, {what}, record {}", hex(record)))
 }

@@ -163,7 +163,7 @@ fn logs(options: &Options, program: &Program) -> Result<Found, String> {
 
 /// The error says why the listing program could not run.
 fn run(options: &Options) -> Result<Found, String> {
-    let program = options.runs(Part::Logs).then(Program::find).transpose()?;
+    let program = options.runs(Part::Logs).then(Program::list_log).transpose()?;
     let mut found = Found::default();
     if options.runs(Part::Messages) {
         found.add(messages(options));

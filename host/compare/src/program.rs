@@ -1,14 +1,11 @@
-//! The proved listing program, with a log from a file or through a pipe.
+//! The proved programs, with logs from files or through a pipe.
 use crate::random::Random;
 use std::fs::{self, File};
-use std::io::{self, Write};
+use std::io::{self, ErrorKind, Write};
 use std::path::{Path, PathBuf};
 use std::process::{ChildStdin, Command, Output, Stdio};
 use std::time::Duration;
 use std::{env, process, thread};
-
-/// The file that the program is, if it is not where it is built.
-const VARIABLE: &str = "RAYDULCIMER_LIST_LOG";
 
 /// After each of the first pieces the program gets time to read it.
 const PAUSES: usize = 8;
@@ -16,37 +13,52 @@ const PAUSE: Duration = Duration::from_micros(100);
 
 pub struct Program {
     path: PathBuf,
-    /// Where logs are written to.
-    log: PathBuf,
+    /// The folder where logs are written to.
+    logs: PathBuf,
 }
 
 impl Program {
-    /// The error says that the program is missing.
-    pub fn find() -> Result<Self, String> {
-        let built = || Path::new(env!("CARGO_MANIFEST_DIR")).join("../../target/bin/list_log");
-        let path = env::var_os(VARIABLE).map_or_else(built, PathBuf::from);
-        match path.canonicalize() {
-            Ok(path) => Ok(Program {
-                path,
-                log: env::temp_dir().join(format!("raydulcimer_{}.log", process::id())),
-            }),
-            Err(_) => Err(format!(
-                "{} is missing: build it with ./raydulcimer list samples/exchange.log, or set {VARIABLE}",
-                path.display()
-            )),
+    /// The program that lists a log. The error says what is missing, as that of the next does.
+    pub fn list_log() -> Result<Self, String> {
+        Program::find("list_log", "RAYDULCIMER_LIST_LOG")
+    }
+
+    /// The program that compares two logs.
+    pub fn compare_logs() -> Result<Self, String> {
+        Program::find("compare_logs", "RAYDULCIMER_COMPARE_LOGS")
+    }
+
+    /// A program where it is built, or in the file that the variable names.
+    fn find(name: &str, variable: &str) -> Result<Self, String> {
+        let built = || {
+            Path::new(env!("CARGO_MANIFEST_DIR"))
+                .join("../../target/bin")
+                .join(name)
+        };
+        let path = env::var_os(variable).map_or_else(built, PathBuf::from);
+        let missing = |_| {
+            let path = path.display();
+            format!("{path} is missing: build it with rt check {name}, or set {variable}")
+        };
+        let path = path.canonicalize().map_err(missing)?;
+        let logs = env::temp_dir().join(format!("raydulcimer_{name}_{}", process::id()));
+        match fs::create_dir_all(&logs) {
+            Ok(()) => Ok(Program { path, logs }),
+            Err(error) => Err(format!("{}: {error}", logs.display())),
         }
     }
 
     fn command(&self) -> Command {
         let mut command = Command::new(&self.path);
-        command.stdout(Stdio::piped());
+        command.current_dir(&self.logs).stdout(Stdio::piped());
         command
     }
 
     /// Lists a log from a file.
     pub fn list_file(&self, log: &[u8]) -> io::Result<Output> {
-        fs::write(&self.log, log)?;
-        let child = self.command().stdin(File::open(&self.log)?).spawn()?;
+        let path = self.logs.join("list.log");
+        fs::write(&path, log)?;
+        let child = self.command().stdin(File::open(&path)?).spawn()?;
         child.wait_with_output()
     }
 
@@ -59,12 +71,33 @@ impl Program {
             child.wait_with_output()
         })
     }
+
+    /// Compares two logs; `None` is a missing file.
+    pub fn compare(&self, left: Option<&[u8]>, right: Option<&[u8]>) -> io::Result<Output> {
+        for (name, log) in [("left.log", left), ("right.log", right)] {
+            let path = self.logs.join(name);
+            match log {
+                Some(log) => fs::write(path, log)?,
+                None => remove(&path)?,
+            }
+        }
+        self.command().stdin(Stdio::null()).output()
+    }
+}
+
+/// Removes a file if it is there.
+fn remove(path: &Path) -> io::Result<()> {
+    match fs::remove_file(path) {
+        Err(error) if error.kind() != ErrorKind::NotFound => Err(error),
+        _ => Ok(()),
+    }
 }
 
 impl Drop for Program {
     fn drop(&mut self) {
-        // There is none if no log was written.
-        let _ = fs::remove_file(&self.log);
+        if let Err(error) = fs::remove_dir_all(&self.logs) {
+            eprintln!("compare: {}: {error}", self.logs.display());
+        }
     }
 }
 
