@@ -133,7 +133,7 @@ fn orders(checker: &mut Checker, shape: &Shape) {
     }
 }
 
-fn permutations(count: usize) -> Vec<Vec<usize>> {
+pub fn permutations(count: usize) -> Vec<Vec<usize>> {
     (0..count).fold(vec![vec![]], |all, next| {
         let inserted = |one: &Vec<usize>, at: usize| [&one[..at], &[next], &one[at..]].concat();
         all.iter()

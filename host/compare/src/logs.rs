@@ -4,7 +4,7 @@ use crate::random::Random;
 use crate::shapes::{every, Block, Shape};
 use second::{log_record, log_records, LogRecord, FROM_TAG, LOG_HEAD, LOG_RECORD_SIZE, MAX_MESSAGE, TO_TAG};
 
-const DIRECTIONS: [u8; 2] = [TO_TAG, FROM_TAG];
+pub const DIRECTIONS: [u8; 2] = [TO_TAG, FROM_TAG];
 
 /// The shortest length that breaks a record.
 const TOO_LONG: u16 = MAX_MESSAGE as u16 + 1;
@@ -89,7 +89,7 @@ impl Entry {
         }
     }
 
-    fn any(random: &mut Random) -> Self {
+    pub fn any(random: &mut Random) -> Self {
         let (direction, message) = (random.pick(&DIRECTIONS), any_message(random));
         if random.below(8) != 0 {
             return Entry::sound(direction, &message);
@@ -139,7 +139,7 @@ fn any_message(random: &mut Random) -> Vec<u8> {
 }
 
 /// So many octets of a Request of version 2, which may be followed by anything.
-fn later_request(random: &mut Random, length: usize) -> Vec<u8> {
+pub fn later_request(random: &mut Random, length: usize) -> Vec<u8> {
     let mut message = vec![2, 0, random.octet(), random.octet()];
     message.extend(random.octets(MAX_MESSAGE));
     message.truncate(length);

@@ -1,20 +1,21 @@
-//! Differential tests: every answer, record, buffer, session and listing of the proved library and listing program against
+//! Differential tests: every answer, record, buffer, session, listing and comparison of the proved library and programs against
 //! the second implementation.
 //!
-//!     compare [--seed N] [--random N] [--calls N] [--records N] [--part messages|sessions|logs]
+//!     compare [--seed N] [--random N] [--calls N] [--records N] [--part messages|sessions|logs|pairs]
 //!
 //! Messages: the corpus, the named messages, every shape with its changes, the writers, every pair of octets as a country,
 //! and N random mixtures (a million if not said). Sessions: lists of N calls altogether (a million if not said). Logs: many of
 //! them, and a long one with N records (300,000 if not said); the program that lists them is target/bin/list_log, or the file
-//! that RAYDULCIMER_LIST_LOG names.
+//! that RAYDULCIMER_LIST_LOG names. Pairs: many logs side by side, and two long ones with N records and more; the program that
+//! compares them is target/bin/compare_logs, or the file that RAYDULCIMER_COMPARE_LOGS names.
 //!
 //! The seed is printed; a difference is printed with the octets or the calls that show it, and the exit status is then 1. It
-//! is 2 if the listing program is missing, and 3 if the lists of calls do not reach, again and again, all that they have to
-//! reach, or the countries or the logs do not reach it once.
+//! is 2 if a program is missing, and 3 if the lists of calls do not reach, again and again, all that they have to reach, or the
+//! countries, the logs or the pairs do not reach it once.
 use compare::checker::Checker;
 use compare::program::Program;
 use compare::random::Random;
-use compare::{changes, corpus, countries, damage, listings, mixtures, named, sessions};
+use compare::{changes, comparisons, corpus, countries, damage, listings, mixtures, named, sessions};
 use std::fmt::Debug;
 use std::process::ExitCode;
 use std::time::{Instant, SystemTime, UNIX_EPOCH};
@@ -27,6 +28,7 @@ enum Part {
     Messages,
     Sessions,
     Logs,
+    Pairs,
 }
 
 struct Options {
@@ -64,6 +66,7 @@ fn options() -> Option<Options> {
             ("--part", "messages") => options.part = Some(Part::Messages),
             ("--part", "sessions") => options.part = Some(Part::Sessions),
             ("--part", "logs") => options.part = Some(Part::Logs),
+            ("--part", "pairs") => options.part = Some(Part::Pairs),
             _ => return None,
         }
     }
@@ -161,9 +164,29 @@ fn logs(options: &Options, program: &Program) -> Result<Found, String> {
     Ok(found)
 }
 
-/// The error says why the listing program could not run.
+/// The program that compares two logs.
+fn pairs(options: &Options, program: &Program) -> Result<Found, String> {
+    let start = Instant::now();
+    let comparisons = comparisons::run(program, options.seed, options.records).map_err(|error| error.to_string())?;
+    let rarest = comparisons.reached.rarest();
+    let found = Found::new(comparisons.differences, &rarest, 1);
+    println!(
+        "comparisons {} pairs {} different {} outcomes {} each at least {} times differences {} in {:.1} s",
+        comparisons.comparisons,
+        comparisons.pairs,
+        comparisons.different,
+        rarest.len(),
+        rarest[0].1,
+        comparisons.differences,
+        start.elapsed().as_secs_f64()
+    );
+    Ok(found)
+}
+
+/// The error says why a program could not run.
 fn run(options: &Options) -> Result<Found, String> {
-    let program = options.runs(Part::Logs).then(Program::list_log).transpose()?;
+    let list_log = options.runs(Part::Logs).then(Program::list_log).transpose()?;
+    let compare_logs = options.runs(Part::Pairs).then(Program::compare_logs).transpose()?;
     let mut found = Found::default();
     if options.runs(Part::Messages) {
         found.add(messages(options));
@@ -171,15 +194,20 @@ fn run(options: &Options) -> Result<Found, String> {
     if options.runs(Part::Sessions) {
         found.add(sessions(options));
     }
-    if let Some(program) = program {
+    if let Some(program) = list_log {
         found.add(logs(options, &program)?);
+    }
+    if let Some(program) = compare_logs {
+        found.add(pairs(options, &program)?);
     }
     Ok(found)
 }
 
 fn main() -> ExitCode {
     let Some(options) = options() else {
-        eprintln!("usage: compare [--seed N] [--random N] [--calls N] [--records N] [--part messages|sessions|logs]");
+        eprintln!(
+            "usage: compare [--seed N] [--random N] [--calls N] [--records N] [--part messages|sessions|logs|pairs]"
+        );
         return ExitCode::from(2);
     };
     println!("seed {}", options.seed);

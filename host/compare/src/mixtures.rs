@@ -7,7 +7,7 @@ use crate::shapes::{configuration, response, Block, Shape, Values};
 const COUNTRY: &[u8] = b"\0/09:AZaz";
 
 /// A valid shape, except that its country may not be allowed.
-fn any_shape(random: &mut Random) -> Shape {
+pub fn any_shape(random: &mut Random) -> Shape {
     let (set, mut v) = (random.below(16) as u16, Values::any(random));
     if random.below(8) == 0 {
         v.country = [random.pick(COUNTRY), random.pick(COUNTRY)];

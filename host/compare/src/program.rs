@@ -81,7 +81,7 @@ impl Program {
                 None => remove(&path)?,
             }
         }
-        self.command().stdin(Stdio::null()).output()
+        self.command().output()
     }
 }
 

@@ -2,7 +2,7 @@
 use crate::random::Random;
 
 pub const INTERVALS: [u16; 4] = [96, 120, 240, 600];
-const KEY_LENGTHS: [usize; 3] = [8, 16, 32];
+pub const KEY_LENGTHS: [usize; 3] = [8, 16, 32];
 
 /// A block as it is written: the size octet may say anything.
 #[derive(Clone)]
@@ -41,6 +41,18 @@ impl Shape {
             again: set,
             blocks,
         }
+    }
+
+    /// The parts of a message in normal form.
+    pub fn of(message: &[u8]) -> Self {
+        let (id, set) = (message[1], u16::from_le_bytes([message[2], message[3]]));
+        let (mut blocks, mut rest) = (Vec::new(), &message[if id == 2 { 6 } else { 4 }..]);
+        while let [id, size, ..] = *rest {
+            let (block, after) = rest.split_at(size.into());
+            blocks.push(Block::new(id, block[2..].to_vec()));
+            rest = after;
+        }
+        Shape::new(id, set, blocks)
     }
 
     pub fn with_set(&self, set: u16) -> Self {
@@ -151,6 +163,15 @@ pub fn response(random: &mut Random, set: u16, v: &Values) -> Shape {
 pub fn configuration(random: &mut Random, set: u16, v: &Values) -> Shape {
     let blocks = ids(set).map(|id| configuration_block(random, v, id)).collect();
     Shape::new(2, set, blocks)
+}
+
+/// Any of the six messages in normal form.
+pub fn message(random: &mut Random, id: u8, set: u16, v: &Values) -> Shape {
+    match id {
+        1 => response(random, set, v),
+        2 => configuration(random, set, v),
+        _ => Shape::new(id, set, vec![]),
+    }
 }
 
 /// A Capability Response and a Configuration of each set, with short key and name.
