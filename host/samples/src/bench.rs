@@ -1,6 +1,5 @@
 //! A bench: a tag, and the log of what goes to it and comes from it.
-use crate::profile::profile;
-use second::{log_record, start, Session, FROM_TAG, MAX_MESSAGE, REPLIES_ON, TO_TAG};
+use second::{log_record, start, Record, Session, FROM_TAG, MAX_MESSAGE, REPLIES_ON, TO_TAG};
 
 pub struct Bench {
     session: Session,
@@ -8,9 +7,9 @@ pub struct Bench {
 }
 
 impl Bench {
-    /// Starts a tag, which advertises.
-    pub fn new() -> Bench {
-        let mut session = start(&profile(), REPLIES_ON).expect("a valid profile");
+    /// Starts a tag with this profile, which advertises.
+    pub fn new(profile: &Record) -> Bench {
+        let mut session = start(profile, REPLIES_ON).expect("a valid profile");
         let mut out = [0; MAX_MESSAGE];
         let answer = session.advertise(&mut out).expect("room for every message");
         let log = log_record(FROM_TAG, &out[..answer.length]).to_vec();

@@ -1,11 +1,12 @@
 //! The sample logs.
 use crate::bench::Bench;
 use crate::phone::*;
+use crate::profile::{old_profile, profile};
 use second::{log_record, CAPABILITY_REQUEST, CONFIGURATION_RESPONSE, KNOWN, RSSI, STOP, TO_TAG, UWB, VERSION};
 
 /// A whole exchange by UWB, NAN and RSSI.
 pub fn exchange() -> Vec<u8> {
-    let mut bench = Bench::new();
+    let mut bench = Bench::new(&profile());
     bench.send(&request(KNOWN));
     bench.send(&configuration(&[uwb(1, 9, 240), nan("theodolite"), rssi()]));
     // 96 ms is below the tag's shortest interval: UWB goes on as before.
@@ -22,7 +23,7 @@ pub fn exchange() -> Vec<u8> {
 
 /// A phone that knows more than the tag.
 pub fn newer_phone() -> Vec<u8> {
-    let mut bench = Bench::new();
+    let mut bench = Bench::new(&profile());
     bench.send(&[3, CAPABILITY_REQUEST, 0x9F, 0x80, 0xE0, 0xE1, 0xE2]);
     let unknown = vec![7, 5, 0xE0, 0xE1, 0xE2];
     let longer_rssi = longer(rssi(), &[0xE3, 0xE4]);
@@ -39,10 +40,36 @@ pub fn newer_phone() -> Vec<u8> {
     bench.log
 }
 
+/// An exchange by UWB, NAN and RSSI with the old board.
+pub fn old_board() -> Vec<u8> {
+    let mut bench = Bench::new(&old_profile());
+    bench.send(&request(KNOWN));
+    bench.send(&configuration(&[uwb(11, 9, 240), nan("sextant"), rssi()]));
+    bench.send(&stop(KNOWN));
+    bench.log
+}
+
+/// The same with the new board, by a newer phone: a later Request, a longer key, and a Stop that a tag of version 1 refuses.
+pub fn new_board() -> Vec<u8> {
+    let mut bench = Bench::new(&profile());
+    let key = [
+        0xA6, 0x1D, 0x93, 0x58, 0x0C, 0xF2, 0x77, 0xE9, 0x91, 0x5F, 0xE4, 0x3B, 0x08, 0xC7, 0x60, 0xDD,
+    ];
+    bench.send(&[3, CAPABILITY_REQUEST, 0x9F, 0x80, 0xE0, 0xE1, 0xE2]);
+    bench.send(&configuration(&[
+        uwb_with_key(12, 5, 240, &key),
+        nan("sextant"),
+        rssi(),
+    ]));
+    bench.send(&[3, STOP, 0x8F, 0x00]);
+    bench.send(&stop(KNOWN));
+    bench.log
+}
+
 /// Sound messages, refused ones, broken records and a cut-off end. A broken record holds a Stop, so that a tag that takes it
 /// ends what ranges.
 pub fn broken() -> Vec<u8> {
-    let mut bench = Bench::new();
+    let mut bench = Bench::new(&profile());
     let stop_all = stop(KNOWN);
     let change_rssi = configuration(&[rssi()]);
     let broken_stop = |place, octet| changed(&log_record(TO_TAG, &stop_all), place, octet);

@@ -1,5 +1,6 @@
-//! Writes the sample bench logs into a folder, each with its listing: `samples FOLDER`. What the tag sends in them is what
-//! the second implementation's session answers, with the profile of `examples/tag.c`; the listings are made by it too.
+//! Writes the sample bench logs into a folder, each with its listing, and what a comparison prints of the two boards' logs:
+//! `samples FOLDER`. What the tag sends in them is what the second implementation's session answers, with the profile of
+//! `examples/tag.c` but for the old board; listings and comparison are made by it too.
 mod bench;
 mod logs;
 mod phone;
@@ -28,14 +29,17 @@ fn main() -> ExitCode {
 
 fn write(folder: &Path) -> io::Result<()> {
     fs::create_dir_all(folder)?;
+    let (old, new) = (logs::old_board(), logs::new_board());
     let logs = [
-        ("exchange", logs::exchange()),
-        ("newer_phone", logs::newer_phone()),
-        ("broken", logs::broken()),
+        ("exchange", &logs::exchange()),
+        ("newer_phone", &logs::newer_phone()),
+        ("broken", &logs::broken()),
+        ("old_board", &old),
+        ("new_board", &new),
     ];
     for (name, log) in logs {
-        fs::write(folder.join(format!("{name}.log")), &log)?;
+        fs::write(folder.join(format!("{name}.log")), log)?;
         second::list(&log[..], File::create(folder.join(format!("{name}.txt")))?)?;
     }
-    Ok(())
+    second::compare(&old[..], &new[..], File::create(folder.join("boards.txt"))?)
 }

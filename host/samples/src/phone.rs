@@ -22,6 +22,11 @@ pub fn configuration(blocks: &[Vec<u8>]) -> Vec<u8> {
 }
 
 pub fn uwb(session_id: u32, channel: u8, interval: u16) -> Vec<u8> {
+    let key = [0x4C, 0x00, 0x35, 0x07, 0x6E, 0xD1, 0xB8, 0x2A];
+    uwb_with_key(session_id, channel, interval, &key)
+}
+
+pub fn uwb_with_key(session_id: u32, channel: u8, interval: u16, key: &[u8]) -> Vec<u8> {
     let mut settings = Configuration::ZERO;
     settings.uwb = UwbConfiguration {
         address: [0x90, 0xC2],
@@ -31,13 +36,13 @@ pub fn uwb(session_id: u32, channel: u8, interval: u16) -> Vec<u8> {
         preamble_index: 11,
         interval,
         slot: 2,
-        key_length: 8,
+        key_length: key.len() as u8,
         key: [0; 32],
         country: *b"GB",
         role: 2,
         mode: 2,
     };
-    settings.uwb.key[..8].copy_from_slice(&[0x4C, 0x00, 0x35, 0x07, 0x6E, 0xD1, 0xB8, 0x2A]);
+    settings.uwb.key[..key.len()].copy_from_slice(key);
     block(UWB, settings)
 }
 

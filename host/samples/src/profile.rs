@@ -1,5 +1,5 @@
-//! What the tag can do, as in `examples/tag.c`.
-use second::{Capability, CsCapability, NanCapability, Record, Rssi, UwbCapability, CAPABILITY_RESPONSE, KNOWN};
+//! What the tag can do, as in `examples/tag.c`, and what an older one could.
+use second::{Capability, CsCapability, NanCapability, Record, Rssi, UwbCapability, CAPABILITY_RESPONSE, CS, KNOWN};
 
 const ADDRESS: [u8; 6] = [0xD4, 0x36, 0x39, 0x5A, 0x21, 0x7C];
 
@@ -32,4 +32,14 @@ pub fn profile() -> Record {
         },
         ..Record::ZERO
     }
+}
+
+/// An older board has another address and no CS, and is slower with UWB.
+pub fn old_profile() -> Record {
+    let mut old = profile();
+    old.set &= !(1 << CS);
+    old.capability.cs = Capability::ZERO.cs;
+    old.capability.uwb.shortest_interval = 240;
+    old.capability.rssi.address = [0xD4, 0x36, 0x39, 0x58, 0x0E, 0xB3];
+    old
 }
