@@ -45,6 +45,7 @@ pub fn run(program: &Program, seed: u64, records: usize) -> io::Result<Compariso
         positions::one_octet,
         disguises::disguised,
         contents::fields,
+        contents::longest,
         contents::lengths,
         contents::presences,
         contents::ids,

@@ -51,19 +51,18 @@ fn with_contents(shape: &Shape, technology: u8, name: &str, octets: &[u8]) -> Sh
     changed
 }
 
-/// A message in which every field of the blocks has other contents, but for the lengths if they are kept.
-fn other(random: &mut Random, shape: &Shape, kept: Option<&Values>) -> Shape {
-    let lengths = |name: &&str| kept.is_some() && LENGTHS.contains(name);
-    let count = of_blocks(shape.id, shape.set).filter(|name| !lengths(name)).count();
+/// A message in which every field of the blocks has other contents, with these lengths of key and name.
+fn other(random: &mut Random, shape: &Shape, [key_length, name_length]: [usize; 2]) -> Shape {
+    let not_lengths = |names: &[&str]| names.iter().filter(|name| !LENGTHS.contains(name)).count();
+    let all: Vec<_> = of_blocks(shape.id, shape.set).collect();
     loop {
-        let any = Values::any(random);
         let values = Values {
-            key_length: kept.map_or(any.key_length, |kept| kept.key_length),
-            name_length: kept.map_or(any.name_length, |kept| kept.name_length),
-            ..any
+            key_length,
+            name_length,
+            ..Values::any(random)
         };
         let other = message(random, shape.id, shape.set, &values);
-        if differing(shape, &other).len() == count {
+        if not_lengths(&differing(shape, &other)) == not_lengths(&all) {
             return other;
         }
     }
@@ -75,8 +74,9 @@ pub fn fields(random: &mut Random) -> Vec<Position> {
     for (id, set) in [1, 2].into_iter().flat_map(|id| (1..16).map(move |set| (id, set))) {
         let values = Values::any(random);
         let left = message(random, id, set, &values);
-        for kept in [None, Some(&values)] {
-            let other = other(random, &left, kept);
+        let (key, name) = (values.key_length, values.name_length);
+        for lengths in [[key, name], [if key == 8 { 32 } else { key / 2 }, name % 64 + 1]] {
+            let other = other(random, &left, lengths);
             for block in &other.blocks {
                 let names = places(id, block).into_iter().map(|(name, _)| name);
                 for name in names.filter(|name| !LENGTHS.contains(name)) {
@@ -86,6 +86,30 @@ pub fn fields(random: &mut Random) -> Vec<Position> {
             }
             positions.push(position(random, &left, other));
         }
+    }
+    positions
+}
+
+/// Many positions with as much to say as there can be: all fields differ, with long contents.
+pub fn longest(random: &mut Random) -> Vec<Position> {
+    let mut positions = Vec::new();
+    for _ in 0..1000 {
+        let values = Values {
+            key_length: 32,
+            name_length: 64,
+            ..Values::any(random)
+        };
+        let mut left = message(random, 2, 15, &values);
+        let mut right = other(random, &left, [16, 63]);
+        for name in ["UWB session ID", "UWB config ID", "UWB channel", "UWB preamble index"] {
+            let size = place(2, &left.blocks[0], name).len();
+            left = with_contents(&left, 0, name, &vec![0xFF; size]);
+            right = with_contents(&right, 0, name, &vec![0xFE; size]);
+        }
+        positions.push(Position::new(
+            log_record(TO_TAG, &left.octets()),
+            log_record(FROM_TAG, &right.octets()),
+        ));
     }
     positions
 }

@@ -1,4 +1,4 @@
-//! Two records at one position: equal, with one octet damaged, of every two answers, and mixtures of all messages.
+//! Positions of two logs: records that are equal, with one octet damaged, of every two answers, and mixtures of all messages.
 use crate::disguises::Disguise;
 use crate::logs::{later_request, Entry, DIRECTIONS};
 use crate::mixtures::{any_shape, changed};
@@ -8,6 +8,7 @@ use crate::shapes::{configuration, of_each_set, Values};
 use crate::{corpus, named};
 use second::{log_record, LogRecord, FROM_TAG, LOG_RECORD_SIZE, MAX_MESSAGE, TO_TAG};
 
+/// Two records at one position of two logs.
 pub struct Position {
     pub left: LogRecord,
     pub right: LogRecord,

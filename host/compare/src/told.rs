@@ -34,20 +34,19 @@ impl Totals {
     }
 
     fn last_line(&self, logs: &TwoLogs) -> String {
-        let [left, right] = Side::BOTH.map(|side| logs.one_sided().filter(|(of, ..)| *of == side).count());
+        let (pairs, same_octets, same_reading) = (self.pairs(), self.same_octets, self.same_reading);
+        let [left, right] = Side::BOTH.map(|side| logs.records(side));
+        let (only_left, only_right) = (left.saturating_sub(right), right.saturating_sub(left));
         let [left_tail, right_tail] = Side::BOTH.map(|side| logs.tail(side));
         format!(
-            "pairs {} same octets {} same reading {} different {} only left {left} only right {right} left tail {left_tail} \
-            right tail {right_tail}",
-            self.pairs(),
-            self.same_octets,
-            self.same_reading,
+            "pairs {pairs} same octets {same_octets} same reading {same_reading} different {} \
+            only left {only_left} only right {only_right} left tail {left_tail} right tail {right_tail}",
             self.different
         )
     }
 }
 
-/// The error has a line that does not say what has to be said, and the records that it speaks of.
+/// What a text on which both agree says of two logs. The error has a line that is wrong, and the records of which it speaks.
 pub fn told(logs: &TwoLogs, text: &str, reached: &mut Counts<Outcome>) -> Result<Totals, String> {
     let (mut lines, mut totals) = (text.lines().peekable(), Totals::default());
     count_logs(logs, reached);
@@ -86,12 +85,12 @@ fn count_logs(logs: &TwoLogs, reached: &mut Counts<Outcome>) {
         let octets = logs.tail(side);
         reached.count(Tail { side, octets });
     }
-    if let Some((side, ..)) = logs.one_sided().next() {
-        match logs.one_sided().count() {
-            1 => reached.count(OneMore(side)),
-            MANY.. => reached.count(ManyMore(side)),
-            _ => {}
-        }
+    let [left, right] = Side::BOTH.map(|side| logs.records(side));
+    let side = if left > right { Side::Left } else { Side::Right };
+    match left.abs_diff(right) {
+        1 => reached.count(OneMore(side)),
+        MANY.. => reached.count(ManyMore(side)),
+        _ => {}
     }
 }
 

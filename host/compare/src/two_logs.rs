@@ -75,6 +75,11 @@ impl TwoLogs {
         log.as_deref().unwrap_or(&[])
     }
 
+    /// How many whole records there are.
+    pub fn records(&self, side: Side) -> usize {
+        self.octets(side).len() / LOG_RECORD_SIZE
+    }
+
     /// How many octets a partial last record has.
     pub fn tail(&self, side: Side) -> usize {
         self.octets(side).len() % LOG_RECORD_SIZE
@@ -107,7 +112,7 @@ impl TwoLogs {
             let (records, _) = log_records(self.octets(side));
             records.enumerate().map(move |(number, record)| (side, number, record))
         });
-        let pairs = self.positions().count();
+        let pairs = self.records(Side::Left).min(self.records(Side::Right));
         left.skip(pairs).chain(right.skip(pairs))
     }
 }
