@@ -135,7 +135,9 @@ struct Octets<'a>(&'a [u8]);
 
 impl Display for Octets<'_> {
     fn fmt(&self, f: &mut Formatter) -> fmt::Result {
-        self.0.iter().try_for_each(|octet| write!(f, "{octet:02X}"))
+        let digit = |number: u8| char::from(b"0123456789ABCDEF"[usize::from(number)]);
+        let digits = self.0.iter().flat_map(|octet| [digit(octet >> 4), digit(octet & 15)]);
+        f.write_str(&digits.collect::<String>())
     }
 }
 
