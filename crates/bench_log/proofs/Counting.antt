@@ -16,7 +16,7 @@ use Rattle.bench_log.specs.Items.{howMany, countersAfter, oneMore}
 use Rattle.bench_log.specs.Totals.{isAccepted, totals, noRecords, counted}
 use Rattle.bench_log.specs.Listing.{nextTotals}
 use Rattle.bench_log.specs.declared.totals.Totals.{Totals}
-use Rattle.bench_log.proofs.Items.{counted-all}
+use Rattle.bench_log.proofs.Items.{all-counted, counted-all}
 
 -- number 0 is given exactly where nothing is refused
 by-zero : (c : Checked Record) → eqb (answer c .refusal) 0 ≡ isAccepted c
@@ -26,10 +26,6 @@ by-zero (accept r) = refl
 zero-accepted : (r : List ℕ) → eqb (entryOf r .refusal) 0 ≡ isAccepted (readingOf r)
 unfolding entryOf
 zero-accepted r = by-zero (readingOf r)
-
-pub all-counted : (rs : List (List ℕ)) → howMany (λ r. true) rs ≡ length rs
-all-counted [] = refl
-all-counted (r ∷ rs) = omega (arith, all-counted rs)
 
 pub one-more : (t : Totals) (r : List ℕ) → nextTotals t r .records ≡ oneMore (t .records)
 unfolding counted

@@ -11,6 +11,10 @@ use Rattle.codec.proofs.Outcomes.{by-bool}
 use Rattle.codec.proofs.Puts.{put-then, put-last, put-none}
 use Rattle.bench_log.specs.Items.{textsFrom, howMany, countersAfter, textsAfter, Tells, oneMore, tally}
 
+pub all-counted : {A : Type 0} (xs : List A) → howMany (λ x. true) xs ≡ length xs
+all-counted [] = refl
+all-counted (x ∷ xs) = omega (arith, all-counted xs)
+
 module _ {A S : Type 0} (next : S → A → S) where
   pub counters-append : (s : S) (xs ys : List A) → countersAfter next s (xs ++ ys) ≡ countersAfter next (countersAfter next s xs) ys
   counters-append s [] ys = refl

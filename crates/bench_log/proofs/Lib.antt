@@ -16,3 +16,4 @@ pub mod Records
 pub mod Whole
 pub mod RecordPairs
 pub mod Positions
+pub mod SideBySide

@@ -21,7 +21,7 @@ use Rattle.bench_log.proofs.Counting.{one-more, counting}
 
 -- ---- what one call lays out
 
-line-laid : {d e : List ℕ} {a : Written} (w : List ℕ) → LaysOut (fitting w (length d)) d a e → a .refusal ≡ 0 → take (a .length) e ≡ w
+pub line-laid : {d e : List ℕ} {a : Written} (w : List ℕ) → LaysOut (fitting w (length d)) d a e → a .refusal ≡ 0 → take (a .length) e ≡ w
 line-laid {d} {e} {a} w l z =
     by-bool (leb (length w) (length d))
     (λ t. rw (rw t at (l .leaves), rw t at (l .answers)) (take-at w (drop (length w) d) (length w) refl))
