@@ -17,3 +17,4 @@ pub mod Whole
 pub mod RecordPairs
 pub mod Positions
 pub mod SideBySide
+pub mod Exactly

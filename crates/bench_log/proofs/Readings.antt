@@ -192,7 +192,7 @@ module _ (dl dr : ℕ) where
   shown-none : (l r : Checked Record) → Sound l → Sound r → shownFrom dl l dr r ≡ [] → Equal dl l dr r
   shown-none (refuse x) (refuse y) s t e = let h = head-equal (numberOf x) (numberOf y) (sym (shown-left dl dr x (refuse y)) ∙ e) in (h .0, refl, h .1)
   shown-none (refuse x) (accept b) s t e = let h = head-equal (numberOf x) 0 (sym (shown-left dl dr x (accept b)) ∙ e) in absurd (no-zero x (h .1))
-  shown-none (accept a) (refuse y) s t e = let h = head-equal 0 (numberOf y) (sym (shown-right dl dr (accept a) y) ∙ e) in absurd (no-zero y (sym (h .1)))
+  shown-none (accept a) (refuse y) s t e = let h = head-equal 0 (numberOf y) (sym (shown-right dl dr a y) ∙ e) in absurd (no-zero y (sym (h .1)))
   shown-none (accept a) (accept b) s t e =
       by-bool (eqb (a .id) (b .id))
       (λ y.

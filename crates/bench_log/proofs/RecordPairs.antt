@@ -78,7 +78,7 @@ read-accepted m places l = go (reading m) (l .reads refl)
 
 either-refused : (dl dr : ℕ) (l r : Checked Record) → ((answer l .refusal ≡ 0) × (answer r .refusal ≡ 0) → ⊥) → shownFrom dl l dr r ≡ headDifferences dl dr (answer l .refusal) (answer r .refusal)
 either-refused dl dr (refuse x) r n = shown-left dl dr x r
-either-refused dl dr (accept a) (refuse y) n = shown-right dl dr (accept a) y
+either-refused dl dr (accept a) (refuse y) n = shown-right dl dr a y
 either-refused dl dr (accept a) (accept b) n = absurd (n (refl, refl))
 
 both-accepted : (dl dr : ℕ) (a b : Record) → shownFrom dl (accept a) dr (accept b) ≡ directionDifference dl dr ++ readDifferences a b

@@ -154,13 +154,18 @@ module _ (dl dr : ℕ) where
   unfolding upTo
   uncut n m ds e = rw (e, ← append-nil (headDifferences dl dr n m)) (kept-head n m [])
 
-  pub shown-left : (x : Refusal) (r : Checked Record) → shownFrom dl (refuse x) dr r ≡ headDifferences dl dr (numberOf x) (answer r .refusal)
-  shown-left x (refuse y) = uncut (numberOf x) (numberOf y) _ (head-left (numberOf x) (numberOf y) [])
-  shown-left x (accept b) = uncut (numberOf x) 0 _ (head-left (numberOf x) 0 (messageFields b))
+  pub differ-left : (x : Refusal) (r : Checked Record) → differing (fieldsFrom dl (refuse x)) (fieldsFrom dr r) ≡ headDifferences dl dr (numberOf x) (answer r .refusal)
+  differ-left x (refuse y) = head-left (numberOf x) (numberOf y) []
+  differ-left x (accept b) = head-left (numberOf x) 0 (messageFields b)
 
-  pub shown-right : (l : Checked Record) (y : Refusal) → shownFrom dl l dr (refuse y) ≡ headDifferences dl dr (answer l .refusal) (numberOf y)
-  shown-right (refuse x) y = uncut (numberOf x) (numberOf y) _ (head-left (numberOf x) (numberOf y) [])
-  shown-right (accept a) y = uncut 0 (numberOf y) _ (head-right 0 (numberOf y) (messageFields a) (apart-message dr (numberOf y) a))
+  pub differ-right : (a : Record) (y : Refusal) → differing (fieldsFrom dl (accept a)) (fieldsFrom dr (refuse y)) ≡ headDifferences dl dr 0 (numberOf y)
+  differ-right a y = head-right 0 (numberOf y) (messageFields a) (apart-message dr (numberOf y) a)
+
+  pub shown-left : (x : Refusal) (r : Checked Record) → shownFrom dl (refuse x) dr r ≡ headDifferences dl dr (numberOf x) (answer r .refusal)
+  shown-left x r = uncut (numberOf x) (answer r .refusal) _ (differ-left x r)
+
+  pub shown-right : (a : Record) (y : Refusal) → shownFrom dl (accept a) dr (refuse y) ≡ headDifferences dl dr 0 (numberOf y)
+  shown-right a y = uncut 0 (numberOf y) _ (differ-right a y)
 
   -- both are accepted
   module _ (a b : Record) where

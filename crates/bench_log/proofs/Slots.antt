@@ -57,7 +57,7 @@ held-here x none fs e = e
 held-here x (some c) fs e = rw (same-self x)
 
 module _ (x : List ℕ) where
-  none-right : (ss : List Slot) → unheard x ss ≡ true → contentsIn (rights ss) x ≡ none
+  pub none-right : (ss : List Slot) → unheard x ss ≡ true → contentsIn (rights ss) x ≡ none
   unfolding contentsIn
   none-right [] e = refl
   none-right (s ∷ ss) e =

@@ -1,7 +1,8 @@
 -- The comparison of two logs by position: what is said of a pair of records, the lines, and the text for two whole logs.
 use Prim.Native.Nat.{ℕ, _*_, _/_, _%_, _<_, min}
 use mathlib.Core.Path.{_≡_}
-use mathlib.Core.List.{List, [], _∷_, _++_, map, flatten}
+use mathlib.Core.Logic.{_⊎_}
+use mathlib.Core.List.{List, [], _∷_, _++_, map, flatten, List·Memᴰ}
 use mathlib.Core.Option.{Option, none, some}
 use mathlib.Core.Bool.{Bool, true, false, _&&_, cond}
 use lib.Dec.{eqb, ltb}
@@ -64,6 +65,17 @@ upTo x (d ∷ ds) = d ∷ cond (same (d .name) x) [] (upTo x ds)
 -- none after unequal IDs
 abbrev pub shown : List ℕ → List ℕ → List Difference
 shown l r = upTo messageIdName (differing (fieldsOf l) (fieldsOf r))
+
+-- In words: a field is shown with both contents exactly if both records have it, the contents are not equal, and it is one of the first
+-- three or the IDs are equal.
+abbrev pub firstNames : List (List ℕ)
+firstNames = ascii "direction" ∷ ascii "refusal number" ∷ messageIdName ∷ []
+
+pub record Differs (l r : List ℕ) (d : Difference) : Type 0 where
+  pub inLeft : contentsIn (fieldsOf l) (d .name) ≡ some (d .left)
+  pub inRight : contentsIn (fieldsOf r) (d .name) ≡ some (d .right)
+  pub unequal : d .left ≡ d .right → ⊥
+  pub inTime : List·Memᴰ (d .name) firstNames ⊎ (contentsIn (fieldsOf l) messageIdName ≡ contentsIn (fieldsOf r) messageIdName)
 
 -- ---- what is said of a pair
 
