@@ -3,8 +3,10 @@
 use libc::ENOENT;
 use libc::STDOUT_FILENO;
 ghost use mathlib.Core.Path.{_≡_};
+ghost use mathlib.Core.Bool.{true};
 ghost use Prim.Native.Nat.{_≤_};
 ghost use lib.ListN.{length};
+ghost use Rattle.log_io.specs.Logs.{Opens, Reads};
 
 // In place of a descriptor: there is no such file. It is read as an empty one.
 pub const MISSING: i32 = -1;
@@ -22,7 +24,9 @@ pub struct Got {
 }
 
 // Opens a log to be read.
-pub fn open_log(path: &[u8], failure: &[u8]) -> Opened {
+pub fn open_log(path: &[u8], failure: &[u8]) -> Opened
+    ensures { λ r. ⌜ Opens (r .file) (r .failed) ⌝ }
+{
     let file = os::open_read(path);
     if 0 <= file {
         return Opened {
@@ -55,7 +59,7 @@ fn read_failed(length: usize, failure: &[u8]) -> Got
 
 // Reads until the piece is full or the log ends.
 pub fn read_piece(file: i32, piece: &mut [u8], failure: &[u8]) -> Got
-    ensures { λ r. ⌜ r .length ≤ length (now (piece .exit)) ⌝ }
+    ensures { λ r. ⌜ Reads file (length (now (piece .exit))) (r .length) (r .failed) ⌝ }
 {
     let mut at = 0;
     if file == MISSING {
@@ -85,14 +89,19 @@ pub fn read_piece(file: i32, piece: &mut [u8], failure: &[u8]) -> Got
 }
 
 fn least(a: usize, b: usize) -> usize
-    ensures { λ r. ⌜ r ≤ b ⌝ }
+    ensures { λ r. ⌜ (r ≤ a) × (r ≤ b) ⌝ }
 {
     if a < b { a } else { b }
 }
 
-// Writes the first octets of a text to standard output, and tells whether all were written.
-pub fn write_text(text: &[u8], n: usize, failure: &[u8]) -> bool {
+// Writes the first octets of a text to standard output, and tells whether all were written. To write none cannot fail.
+pub fn write_text(text: &[u8], n: usize, failure: &[u8]) -> bool
+    ensures { λ r. ⌜ (n ≡ 0 → r ≡ true) ⌝ }
+{
     let end = least(n, text.len());
+    if end == 0 {
+        return true;
+    }
     let written = io::write_all(STDOUT_FILENO, &text[..end]);
     if !written {
         os::fail(failure);

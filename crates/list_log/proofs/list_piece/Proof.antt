@@ -5,7 +5,7 @@ use Rattle.list_log.proofs.list_piece.Statement.{statement}
 use Rattle.list_log.proofs.list_piece.Tie as tie
 
 slice-aggregate-list : tie.Need-slice-aggregate-list
-slice-aggregate-list c = sym (length-take-le _ _ (c .before .before .before .read-piece .ensures))
+slice-aggregate-list c = sym (length-take-le _ _ (c .before .before .before .read-piece .ensures .within))
 
 pub list-piece-spec : {M : Type 1} → statement M
 list-piece-spec =

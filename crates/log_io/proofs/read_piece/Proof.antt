@@ -1,6 +1,9 @@
 use lib.ListN.{length}
-use mathlib.Core.Path.{_≡_}
+use mir.Syntax.{w32}
+use mir.Val.{ofZ}
+use mathlib.Core.Path.{_≡_, refl, ap}
 use Prim.Native.Nat.{_-_, _≤_}
+use native.Mathlib.Omega.{arith}
 use borrow.Author.Needs.{needs}
 use Rattle.log_io.proofs.read_piece.Statement.{statement}
 use Rattle.log_io.proofs.read_piece.Tie as tie
@@ -12,7 +15,7 @@ abbrev μ-loop : tie.MeasureT-loop
 μ-loop file piece₀ failure at₀ piece at = length piece - at
 
 returns : tie.Need-returns Inv-loop μ-loop
-returns c = search needs
+returns c = record { within = omega arith; none = λ e. (refl, refl) }
 
 loop-holds : tie.Need-loop-holds Inv-loop μ-loop
 loop-holds c = search needs
@@ -36,7 +39,7 @@ same-length : tie.Need-same-length Inv-loop μ-loop
 same-length c = search needs
 
 returns-2 : tie.Need-returns-2 Inv-loop μ-loop
-returns-2 c = search needs
+returns-2 c = record { within = search needs; none = λ e. absurd (c .before .before .before .before .before .before .before .before .if1 .left (ap (ofZ w32) e)) }
 
 sub-count : tie.Need-sub-count Inv-loop μ-loop
 sub-count c = search needs
@@ -54,7 +57,7 @@ same-length-2 : tie.Need-same-length-2 Inv-loop μ-loop
 same-length-2 c = search needs
 
 returns-3 : tie.Need-returns-3 Inv-loop μ-loop
-returns-3 c = search needs
+returns-3 c = record { within = search needs; none = λ e. absurd (c .before .before .before .before .before .before .before .before .before .before .before .if1 .left (ap (ofZ w32) e)) }
 
 add-at : tie.Need-add-at Inv-loop μ-loop
 add-at c = search needs
@@ -69,7 +72,7 @@ same-length-3 : tie.Need-same-length-3 Inv-loop μ-loop
 same-length-3 c = search needs
 
 returns-4 : tie.Need-returns-4 Inv-loop μ-loop
-returns-4 c = search needs
+returns-4 c = record { within = search needs; none = λ e. absurd (c .before .before .if1 .left (ap (ofZ w32) e)) }
 
 pub read-piece-spec : {M : Type 1} → statement M
 read-piece-spec =
