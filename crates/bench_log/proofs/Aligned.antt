@@ -14,7 +14,7 @@ use Rattle.codec.specs.Table.{row}
 use Rattle.codec.specs.Records.{ofRecord}
 use Rattle.codec.specs.declared.records.Record.{Record}
 use Rattle.bench_log.specs.Text.{ascii}
-use Rattle.bench_log.specs.Fields.{Contents, amount, string, FieldOf, prefix, blockFields, messageIdName, presence, fieldsIf, columnFields, messageFields, headFields, fieldsFrom}
+use Rattle.bench_log.specs.Fields.{Contents, amount, string, FieldOf, prefix, blockFields, messageIdName, presence, fieldsIf, columnFields, messageFields, headFields, fieldsFrom, directionName, refusalName}
 use Rattle.bench_log.specs.Comparison.{Difference, difference, differing}
 use Rattle.bench_log.specs.Inner.Differences.{blockDifferences, sectionDifferences, columnDifferences, presenceDifference, messageDifferences}
 use Rattle.bench_log.proofs.Slots.{Slot, held, lefts, rights, meet, meets, distinct, slots-differ}
@@ -115,8 +115,8 @@ module _ (a b : Record) where
 
   abbrev pub slotsOf : (dl dr : ℕ) → Option Column → List Slot
   slotsOf dl dr c =
-      record { name = ascii "direction"; left = some (amount dl); right = some (amount dr) }
-      ∷ (record { name = ascii "refusal number"; left = some (amount 0); right = some (amount 0) }
+      record { name = directionName; left = some (amount dl); right = some (amount dr) }
+      ∷ (record { name = refusalName; left = some (amount 0); right = some (amount 0) }
       ∷ (record { name = messageIdName; left = some (amount (a .id)); right = some (amount (b .id)) }
       ∷ (map presenceSlot technologies
       ++ columnSlots c)))
@@ -165,13 +165,13 @@ module _ (a b : Record) where
     unfolding messageFields
     slots-right e = rw (e, column-right c)
 
-    pub slots-meet : meets (slotsOf dl dr c) ≡ difference (ascii "direction") (amount dl) (amount dr) ++ (difference messageIdName (amount (a .id)) (amount (b .id)) ++ messageDifferences a b c)
+    pub slots-meet : meets (slotsOf dl dr c) ≡ difference directionName (amount dl) (amount dr) ++ (difference messageIdName (amount (a .id)) (amount (b .id)) ++ messageDifferences a b c)
     unfolding difference
     slots-meet =
-        ap (λ (ds : List Difference). difference (ascii "direction") (amount dl) (amount dr) ++ (difference messageIdName (amount (a .id)) (amount (b .id)) ++ ds))
+        ap (λ (ds : List Difference). difference directionName (amount dl) (amount dr) ++ (difference messageIdName (amount (a .id)) (amount (b .id)) ++ ds))
         (presences-meet technologies (columnSlots c) ∙ rw (column-meets c))
 
     -- so the fields that differ are these
     pub messages-differ : row (a .id) .column ≡ c → row (b .id) .column ≡ c → differing (fieldsFrom dl (accept a)) (fieldsFrom dr (accept b))
-        ≡ difference (ascii "direction") (amount dl) (amount dr) ++ (difference messageIdName (amount (a .id)) (amount (b .id)) ++ messageDifferences a b c)
+        ≡ difference directionName (amount dl) (amount dr) ++ (difference messageIdName (amount (a .id)) (amount (b .id)) ++ messageDifferences a b c)
     messages-differ e f = rw (← slots-left e, ← slots-right f) (slots-differ (slotsOf dl dr c) (slots-distinct dl dr c) ∙ slots-meet)

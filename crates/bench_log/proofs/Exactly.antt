@@ -12,12 +12,11 @@ use Rattle.codec.specs.Table.{row}
 use Rattle.codec.specs.Records.{answer}
 use Rattle.codec.specs.declared.records.Record.{Record}
 use Rattle.codec.proofs.Outcomes.{by-bool, and-true}
-use Rattle.bench_log.specs.Text.{ascii}
 use Rattle.bench_log.specs.LogRecord.{readingOf, directionOf}
-use Rattle.bench_log.specs.Fields.{Contents, amount, FieldOf, messageIdName, headFields, messageFields, fieldsFrom}
+use Rattle.bench_log.specs.Fields.{Contents, amount, FieldOf, messageIdName, headFields, messageFields, fieldsFrom, directionName, refusalName}
 use Rattle.bench_log.specs.Comparison.{same, alike, Difference, contentsIn, difference, against, differing, shown, firstNames, Differs}
 use Rattle.bench_log.specs.Inner.Pairs.{directionDifference, headDifferences}
-use Rattle.bench_log.proofs.Equals.{same-self, same-equal, alike-self, alike-equal}
+use Rattle.bench_log.proofs.Equals.{same-self, same-equal, amount-equal, alike-self, alike-equal}
 use Rattle.bench_log.proofs.Slots.{Slot, held, rights, unheard, distinct, none-right}
 use Rattle.bench_log.proofs.Aligned.{slotsOf, slots-distinct, slots-right, messages-differ}
 use Rattle.bench_log.proofs.Shown.{shownFrom, differ-left, differ-right, shown-left, shown-right, shown-ids, shown-messages}
@@ -26,9 +25,6 @@ use Rattle.bench_log.proofs.Shown.{shownFrom, differ-left, differ-right
 
 some-equal : {x y : Contents} → some x ≡ some y → x ≡ y
 some-equal e = cc
-
-amount-equal : {x y : ℕ} → amount x ≡ amount y → x ≡ y
-amount-equal e = cc
 
 abbrev isSome : Option Contents → Bool
 isSome none = false
@@ -131,9 +127,9 @@ module _ (dl dr : ℕ) (l r : Checked Record) (uncut : shownFrom dl l dr r ≡ d
 heads-named : (dl dr n m : ℕ) (d : Difference) → List·Memᴰ d (headDifferences dl dr n m) → List·Memᴰ (d .name) firstNames
 heads-named dl dr n m d h = go (List·Memᴰ·append-cases (directionDifference dl dr) h)
   where
-    go : List·Memᴰ d (directionDifference dl dr) ⊎ List·Memᴰ d (difference (ascii "refusal number") (amount n) (amount m)) → List·Memᴰ (d .name) firstNames
-    go (inl x) = List·Memᴰ·head (ap (λ (d : Difference). d .name) (one-difference (ascii "direction") (amount dl) (amount dr) d x .0))
-    go (inr x) = List·Memᴰ·tail (List·Memᴰ·head (ap (λ (d : Difference). d .name) (one-difference (ascii "refusal number") (amount n) (amount m) d x .0)))
+    go : List·Memᴰ d (directionDifference dl dr) ⊎ List·Memᴰ d (difference refusalName (amount n) (amount m)) → List·Memᴰ (d .name) firstNames
+    go (inl x) = List·Memᴰ·head (ap (λ (d : Difference). d .name) (one-difference directionName (amount dl) (amount dr) d x .0))
+    go (inr x) = List·Memᴰ·tail (List·Memᴰ·head (ap (λ (d : Difference). d .name) (one-difference refusalName (amount n) (amount m) d x .0)))
 
 -- a difference by its name
 by-name : (fs gs : List FieldOf) (d : Difference) (name : List ℕ) (x y : Contents) → Facts fs gs d → d .name ≡ name → contentsIn fs name ≡ some x → contentsIn gs name ≡ some y
@@ -152,7 +148,7 @@ module _ (dl dr : ℕ) (a b : Record) (unequal : a .id ≡ b .id → ⊥) where
   to-facts : (d : Difference) → List·Memᴰ d (directionDifference dl dr) ⊎ List·Memᴰ d ids → Said dl (accept a) dr (accept b) d
   unfolding contentsIn messageFields
   to-facts d (inl m) =
-      let o = one-difference (ascii "direction") (amount dl) (amount dr) d m in
+      let o = one-difference directionName (amount dl) (amount dr) d m in
       subst (Said dl (accept a) dr (accept b)) (sym (o .0)) ((refl, refl, o .1), inl (List·Memᴰ·head refl))
   to-facts d (inr m) =
       let o = one-difference messageIdName (amount (a .id)) (amount (b .id)) d m in
@@ -169,13 +165,13 @@ module _ (dl dr : ℕ) (a b : Record) (unequal : a .id ≡ b .id → ⊥) where
   unfolding contentsIn messageFields
   of-id d h e = Memᴰ·append-right (directionDifference dl dr) (by-name F G d messageIdName (amount (a .id)) (amount (b .id)) h e refl refl)
 
-  of-refusal : (d : Difference) → Facts F G d → d .name ≡ ascii "refusal number" → ⊥
+  of-refusal : (d : Difference) → Facts F G d → d .name ≡ refusalName → ⊥
   unfolding contentsIn messageFields
-  of-refusal d h e = one-difference (ascii "refusal number") (amount 0) (amount 0) d (by-name F G d (ascii "refusal number") (amount 0) (amount 0) h e refl refl) .1 refl
+  of-refusal d h e = one-difference refusalName (amount 0) (amount 0) d (by-name F G d refusalName (amount 0) (amount 0) h e refl refl) .1 refl
 
-  of-direction : (d : Difference) → Facts F G d → d .name ≡ ascii "direction" → List·Memᴰ d (directionDifference dl dr ++ ids)
+  of-direction : (d : Difference) → Facts F G d → d .name ≡ directionName → List·Memᴰ d (directionDifference dl dr ++ ids)
   unfolding contentsIn messageFields
-  of-direction d h e = Memᴰ·append-left ids (by-name F G d (ascii "direction") (amount dl) (amount dr) h e refl refl)
+  of-direction d h e = Memᴰ·append-left ids (by-name F G d directionName (amount dl) (amount dr) h e refl refl)
 
   of-facts : (d : Difference) → Facts F G d → List·Memᴰ (d .name) firstNames → List·Memᴰ d (directionDifference dl dr ++ ids)
   of-facts d h m =

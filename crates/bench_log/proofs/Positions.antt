@@ -2,7 +2,7 @@
 use Prim.Native.Nat.{ℕ, _+_, _-_, _*_, _≤_}
 use native.Mathlib.Omega.{arith}
 use mathlib.Core.Path.{_≡_, refl, sym, ap, _∙_, subst}
-use mathlib.Core.List.{List, [], _∷_, _++_, map}
+use mathlib.Core.List.{List, [], _∷_, _++_, map, map-append}
 use mathlib.Core.Bool.{cond}
 use lib.Dec.{eqb}
 use lib.ListN.{length, length-append}
@@ -20,10 +20,6 @@ use Rattle.bench_log.specs.Inner.Pairs.{kindText}
 use Rattle.bench_log.specs.declared.kinds.Kinds.{Kinds}
 use Rattle.bench_log.proofs.Items.{SoFar, one-told, all-told}
 use Rattle.bench_log.proofs.Records.{records-length, next-record}
-
-pub map-append : {A B : Type 0} (f : A → B) (xs ys : List A) → map f (xs ++ ys) ≡ map f xs ++ map f ys
-map-append f [] ys = refl
-map-append f (x ∷ xs) ys = rw (map-append f xs ys)
 
 -- pairs, and then the rest
 pub positions-append : (xs ys ls rs : List (List ℕ)) → length xs ≡ length ys → positions (xs ++ ls) (ys ++ rs) ≡ positions xs ys ++ positions ls rs

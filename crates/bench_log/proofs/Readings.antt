@@ -29,9 +29,9 @@ use Rattle.codec.proofs.ReadBack.{passes}
 use Rattle.codec.proofs.Demand2.{reads-back, accepted-valid}
 use Rattle.bench_log.specs.Text.{ascii}
 use Rattle.bench_log.specs.LogRecord.{lengthIn, messageIn, keepsLayout, takenApart, readingOf, directionOf}
-use Rattle.bench_log.specs.Fields.{Contents, amount, string, prefix, messageIdName, presence}
+use Rattle.bench_log.specs.Fields.{Contents, amount, string, prefix, messageIdName, presence, directionName, refusalName}
 use Rattle.bench_log.specs.Comparison.{same, alike, Difference, difference, shown, normalFormOf, sameReading}
-use Rattle.bench_log.proofs.Equals.{same-self, same-equal, alike-self, alike-equal}
+use Rattle.bench_log.proofs.Equals.{same-self, same-equal, amount-equal, string-equal, alike-self, alike-equal}
 use Rattle.bench_log.specs.Inner.Pairs.{directionDifference, headDifferences}
 use Rattle.bench_log.specs.Inner.Differences.{blockDifferences, sectionDifferences, columnDifferences, presenceDifference, messageDifferences}
 use Rattle.bench_log.proofs.Shown.{shownFrom, shown-left, shown-right, shown-ids, shown-messages}
@@ -62,12 +62,6 @@ none-each : (f : Technology → List Difference) → ((t : Technology) → f t �
 unfolding flatten
 none-each f h [] = refl
 none-each f h (t ∷ ts) = rw (h t, none-each f h ts)
-
-amount-equal : {x y : ℕ} → amount x ≡ amount y → x ≡ y
-amount-equal e = cc
-
-string-equal : {x y : List ℕ} → string x ≡ string y → x ≡ y
-string-equal e = cc
 
 -- ---- blocks
 
@@ -181,13 +175,13 @@ none-shown dl dr (accept a) (accept b) s t e =
     let q = normal-record a b s t (e .1) in
     shown-messages dl dr a b (ap (λ (r : Record). r .id) q)
     ∙ subst (λ (r : Record). directionDifference dl dr ++ messageDifferences a r (row (a .id) .column) ≡ []) q
-    (rw (e .0) (equal-none (ascii "direction") (amount dr) (messageDifferences a a (row (a .id) .column)) (message-self a (row (a .id) .column))))
+    (rw (e .0) (equal-none directionName (amount dr) (messageDifferences a a (row (a .id) .column)) (message-self a (row (a .id) .column))))
 
 module _ (dl dr : ℕ) where
   head-equal : (n m : ℕ) → headDifferences dl dr n m ≡ [] → (dl ≡ dr) × (n ≡ m)
   head-equal n m e =
-      let o = one-none (ascii "direction") (amount dl) (amount dr) _ e in
-      (amount-equal (o .0), amount-equal (none-equal (ascii "refusal number") (amount n) (amount m) (o .1)))
+      let o = one-none directionName (amount dl) (amount dr) _ e in
+      (amount-equal (o .0), amount-equal (none-equal refusalName (amount n) (amount m) (o .1)))
 
   shown-none : (l r : Checked Record) → Sound l → Sound r → shownFrom dl l dr r ≡ [] → Equal dl l dr r
   shown-none (refuse x) (refuse y) s t e = let h = head-equal (numberOf x) (numberOf y) (sym (shown-left dl dr x (refuse y)) ∙ e) in (h .0, refl, h .1)
@@ -197,11 +191,11 @@ module _ (dl dr : ℕ) where
       by-bool (eqb (a .id) (b .id))
       (λ y.
       let i = eqb-true (a .id) (b .id) y in
-      let o = one-none (ascii "direction") (amount dl) (amount dr) _ (sym (shown-messages dl dr a b i) ∙ e) in
+      let o = one-none directionName (amount dl) (amount dr) _ (sym (shown-messages dl dr a b i) ∙ e) in
       (amount-equal (o .0), messages-equal a b (passes a (s .1) .set) (passes b (t .1) .set) i (o .1), refl))
       (λ n.
       let d = eqb-false (a .id) (b .id) n in
-      let o = one-none (ascii "direction") (amount dl) (amount dr) _ (sym (shown-ids dl dr a b d) ∙ e) in
+      let o = one-none directionName (amount dl) (amount dr) _ (sym (shown-ids dl dr a b d) ∙ e) in
       absurd (d (amount-equal (none-equal messageIdName (amount (a .id)) (amount (b .id)) (o .1)))))
 
 -- an accepted record of a log is sound

@@ -17,7 +17,7 @@ use Rattle.codec.specs.WellFormed.{Each}
 use Rattle.codec.specs.declared.records.Record.{Record}
 use Rattle.codec.proofs.Outcomes.{by-bool}
 use Rattle.bench_log.specs.Text.{ascii}
-use Rattle.bench_log.specs.Fields.{Contents, amount, string, FieldOf, prefix, blockFields, messageIdName, presence, fieldsIf, columnFields, messageFields, headFields, fieldsFrom}
+use Rattle.bench_log.specs.Fields.{Contents, amount, string, FieldOf, prefix, blockFields, messageIdName, presence, fieldsIf, columnFields, messageFields, headFields, fieldsFrom, directionName, refusalName}
 use Rattle.bench_log.specs.Comparison.{same, alike, Difference, contentsIn, difference, differing, upTo}
 use Rattle.bench_log.specs.Inner.Pairs.{directionDifference, headDifferences}
 use Rattle.bench_log.specs.Inner.Differences.{blockDifferences, sectionDifferences, columnDifferences, presenceDifference, messageDifferences}
@@ -136,19 +136,19 @@ shownFrom dl l dr r = upTo messageIdName (differing (fieldsFrom dl l) (fieldsFro
 
 module _ (dl dr : ℕ) where
   kept-direction : Kept (directionDifference dl dr)
-  kept-direction = kept-one (ascii "direction") (amount dl) (amount dr) refl
+  kept-direction = kept-one directionName (amount dl) (amount dr) refl
 
   kept-head : (n m : ℕ) → Kept (headDifferences dl dr n m)
-  kept-head n m = kept-both (directionDifference dl dr) (difference (ascii "refusal number") (amount n) (amount m)) kept-direction (kept-one (ascii "refusal number") (amount n) (amount m) refl)
+  kept-head n m = kept-both (directionDifference dl dr) (difference refusalName (amount n) (amount m)) kept-direction (kept-one refusalName (amount n) (amount m) refl)
 
   -- the left one is refused, or the right one
   head-left : (n m : ℕ) (fs : List FieldOf) → differing (headFields dl n) (headFields dr m ++ fs) ≡ headDifferences dl dr n m
   unfolding differing contentsIn
-  head-left n m fs = rw (append-nil (difference (ascii "refusal number") (amount n) (amount m)))
+  head-left n m fs = rw (append-nil (difference refusalName (amount n) (amount m)))
 
   head-right : (n m : ℕ) (fs : List FieldOf) → Each (Apart dr m) fs → differing (headFields dl n ++ fs) (headFields dr m) ≡ headDifferences dl dr n m
   unfolding differing contentsIn
-  head-right n m fs h = rw (alone fs (headFields dr m) h, append-nil (difference (ascii "refusal number") (amount n) (amount m)))
+  head-right n m fs h = rw (alone fs (headFields dr m) h, append-nil (difference refusalName (amount n) (amount m)))
 
   uncut : (n m : ℕ) (ds : List Difference) → ds ≡ headDifferences dl dr n m → upTo messageIdName ds ≡ headDifferences dl dr n m
   unfolding upTo

@@ -17,7 +17,7 @@ use Rattle.bench_log.specs.LogRecord.{recordSize, recordsIn, wholeRecord
 use Rattle.bench_log.specs.Items.{textsFrom, howMany, tally, Tells}
 use Rattle.bench_log.specs.Text.{ascii, decimal, hexadecimal}
 use Rattle.bench_log.specs.Listing.{field, entryText}
-use Rattle.bench_log.specs.Fields.{Contents, amount, string, FieldOf, messageIdName, fieldsOf}
+use Rattle.bench_log.specs.Fields.{Contents, amount, string, FieldOf, messageIdName, fieldsOf, directionName, refusalName}
 use Rattle.bench_log.specs.declared.comparison.Side.{Side}
 use Rattle.bench_log.specs.declared.kinds.Kinds.{Kinds}
 use Rattle.bench_log.specs.declared.comparison.Compared.{Compared}
@@ -69,7 +69,7 @@ shown l r = upTo messageIdName (differing (fieldsOf l) (fieldsOf r))
 -- In words: a field is shown with both contents exactly if both records have it, the contents are not equal, and it is one of the first
 -- three or the IDs are equal.
 abbrev pub firstNames : List (List ℕ)
-firstNames = ascii "direction" ∷ ascii "refusal number" ∷ messageIdName ∷ []
+firstNames = directionName ∷ refusalName ∷ messageIdName ∷ []
 
 pub record Differs (l r : List ℕ) (d : Difference) : Type 0 where
   pub inLeft : contentsIn (fieldsOf l) (d .name) ≡ some (d .left)

@@ -67,10 +67,16 @@ messageFields r =
 
 -- ---- the fields of a log record: its direction, its refusal number, which is 0 if it is accepted, and then those of the message
 
+abbrev pub directionName : List ℕ
+directionName = ascii "direction"
+
+abbrev pub refusalName : List ℕ
+refusalName = ascii "refusal number"
+
 abbrev pub headFields : (direction refusal : ℕ) → List FieldOf
 headFields direction refusal =
-    record { name = ascii "direction"; contents = amount direction }
-    ∷ (record { name = ascii "refusal number"; contents = amount refusal }
+    record { name = directionName; contents = amount direction }
+    ∷ (record { name = refusalName; contents = amount refusal }
     ∷ [])
 
 abbrev pub fieldsFrom : ℕ → Checked Record → List FieldOf

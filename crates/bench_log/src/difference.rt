@@ -13,6 +13,13 @@ ghost use Rattle.bench_log.specs.Text.{ascii, decimal};
 ghost use Rattle.bench_log.specs.Fields.{amount, string};
 ghost use Rattle.bench_log.specs.Comparison.{difference, differenceLines};
 
+// A number of one octet.
+pub(crate) fn wide(x: u8) -> u64
+    ensures { λ r. ⌜ r ≡ x ⌝ }
+{
+    x as u64
+}
+
 // A record's number and a field's name, of which the technology is the first part.
 fn put_name(out: &mut [u8], at: usize, number: u64, technology: &[u8], name: &[u8]) -> usize
     requires { ⌜ at + 28 + length (now technology) + length (now name) ≤ length (now out) ⌝ }

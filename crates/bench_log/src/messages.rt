@@ -1,5 +1,6 @@
 // What differs in two accepted messages: the ID, and where it is equal which technologies are present, and the fields of their blocks.
 use crate::difference::put_numbers;
+use crate::difference::wide;
 use crate::sections::put_section;
 use codec::both_have;
 use codec::message::CAPABILITY_RESPONSE;
@@ -123,12 +124,6 @@ fn put_sections(
         right,
         b[3],
     )
-}
-
-fn wide(x: u8) -> u64
-    ensures { λ r. ⌜ r ≡ x ⌝ }
-{
-    x as u64
 }
 
 fn joined(low: u8, high: u8) -> u16

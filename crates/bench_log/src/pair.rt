@@ -1,5 +1,6 @@
 // What is said of a pair of log records.
 use crate::difference::put_numbers;
+use crate::difference::wide;
 use crate::kinds::DIFFERENT;
 use crate::kinds::SAME_OCTETS;
 use crate::kinds::SAME_READING;
@@ -54,12 +55,6 @@ fn look_at(octets: &[u8]) -> Seen
         end,
         places,
     }
-}
-
-fn wide(x: u8) -> u64
-    ensures { λ r. ⌜ r ≡ x ⌝ }
-{
-    x as u64
 }
 
 // The lines of the directions and the refusal numbers.

@@ -76,13 +76,9 @@ fn tell_only(before: Told, side: Side, piece: &[u8], pairs: usize, text: &mut [u
     Told { kinds, written }
 }
 
-fn least(a: usize, b: usize) -> usize {
-    if a < b { a } else { b }
-}
-
 // Tells all positions of two pieces.
 fn tell(before: Kinds, left: &[u8], right: &[u8], text: &mut [u8]) -> Told {
-    let pairs = least(left.len() / RECORD_SIZE, right.len() / RECORD_SIZE);
+    let pairs = log_io::least(left.len() / RECORD_SIZE, right.len() / RECORD_SIZE);
     let told = tell_pairs(before, left, right, text);
     let told = tell_only(told, Side::Left, left, pairs, text);
     tell_only(told, Side::Right, right, pairs, text)

@@ -88,7 +88,7 @@ pub fn read_piece(file: i32, piece: &mut [u8], failure: &[u8]) -> Got
     }
 }
 
-fn least(a: usize, b: usize) -> usize
+pub fn least(a: usize, b: usize) -> usize
     ensures { λ r. ⌜ (r ≤ a) × (r ≤ b) ⌝ }
 {
     if a < b { a } else { b }

@@ -77,6 +77,7 @@ fn last_line(output: &mut impl Write, counts: &Counts, left_tail: usize, right_t
 #[cfg(test)]
 mod tests {
     use super::*;
+    use crate::failing::Failing;
     use crate::log::*;
     use crate::log_reader::AT_ONCE;
     use std::io::ErrorKind;
@@ -203,12 +204,6 @@ mod tests {
 
     #[test]
     fn errors() {
-        struct Failing;
-        impl Read for Failing {
-            fn read(&mut self, _: &mut [u8]) -> io::Result<usize> {
-                Err(ErrorKind::PermissionDenied.into())
-            }
-        }
         let of_left = compare(Failing, io::empty(), io::sink()).unwrap_err();
         let of_right = compare(io::empty(), Failing, io::sink()).unwrap_err();
         assert_eq!([of_left.kind(), of_right.kind()], [ErrorKind::PermissionDenied; 2]);

@@ -8,6 +8,8 @@ mod blocks;
 mod comparison;
 mod differences;
 mod entry;
+#[cfg(test)]
+mod failing;
 mod listing;
 mod log;
 mod log_reader;

@@ -61,6 +61,7 @@ fn fill(input: &mut impl Read, buffer: &mut [u8]) -> io::Result<usize> {
 #[cfg(test)]
 mod tests {
     use super::*;
+    use crate::failing::Failing;
 
     /// Gives few octets at a time and is often interrupted. Once it has ended, it
     /// is not to be read again.
@@ -109,12 +110,6 @@ mod tests {
 
     #[test]
     fn errors() {
-        struct Failing;
-        impl Read for Failing {
-            fn read(&mut self, _: &mut [u8]) -> io::Result<usize> {
-                Err(ErrorKind::PermissionDenied.into())
-            }
-        }
         let error = LogReader::new(Failing).next_record().unwrap_err();
         assert_eq!(error.kind(), ErrorKind::PermissionDenied);
     }

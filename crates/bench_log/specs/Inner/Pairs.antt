@@ -11,15 +11,15 @@ use Rattle.codec.specs.Message.{reading}
 use Rattle.codec.specs.Inner.Places.{Located}
 use Rattle.bench_log.specs.LogRecord.{readingOf, directionOf}
 use Rattle.bench_log.specs.Text.{ascii}
-use Rattle.bench_log.specs.Fields.{amount}
+use Rattle.bench_log.specs.Fields.{amount, directionName, refusalName}
 use Rattle.bench_log.specs.Comparison.{Difference, difference}
 use Rattle.bench_log.specs.declared.pair.Seen.{Seen}
 
 abbrev pub directionDifference : (left right : ℕ) → List Difference
-directionDifference left right = difference (ascii "direction") (amount left) (amount right)
+directionDifference left right = difference directionName (amount left) (amount right)
 
 abbrev pub headDifferences : (left right refusal other : ℕ) → List Difference
-headDifferences left right refusal other = directionDifference left right ++ difference (ascii "refusal number") (amount refusal) (amount other)
+headDifferences left right refusal other = directionDifference left right ++ difference refusalName (amount refusal) (amount other)
 
 -- the message of an accepted record: its octets, and the places of its blocks
 pub record Holds (r : List ℕ) (end : ℕ) (places : List ℕ) : Type 0 where
