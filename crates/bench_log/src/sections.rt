@@ -11,6 +11,24 @@ ghost use Rattle.codec.specs.Inner.Puts.{Put};
 ghost use Rattle.bench_log.specs.Comparison.{differenceLines};
 ghost use Rattle.bench_log.specs.Inner.Differences.{technologyBy, columnBy, blockAt, BlockReady, sectionAt, sectionLimit, SectionReady};
 
+// 01's table.
+const UWB_CAPABILITY: [u8; 90] =
+    *b"\x42\x07address\x04\x08channels\x04\x10preamble indexes\x04\x0Aconfig IDs\x02\x11shortest interval\x01\x0Dshortest slot\x01\x05roles";
+
+const CS_CAPABILITY: [u8; 25] = *b"\x01\x0Esecurity types\x46\x07address";
+
+const NAN_CAPABILITY: [u8; 47] =
+    *b"\x01\x08features\x01\x08periodic\x01\x09bandwidth\x01\x0Ereceive chains";
+
+const RSSI_BLOCK: [u8; 9] = *b"\x46\x07address";
+
+const UWB_CONFIGURATION: [u8; 111] =
+    *b"\x42\x07address\x04\x0Asession ID\x01\x09config ID\x01\x07channel\x01\x0Epreamble index\x02\x08interval\x01\x04slot\x01\x0Akey length\xA0\x03key\x42\x07country\x01\x04role\x01\x04mode";
+
+const CS_CONFIGURATION: [u8; 25] = *b"\x01\x0Esecurity level\x46\x07address";
+
+const NAN_CONFIGURATION: [u8; 35] = *b"\x01\x0Bname length\xC0\x04name\x01\x04role\x01\x08periodic";
+
 // Two blocks of message 1.
 fn put_capability(
     out: &mut [u8],
@@ -25,51 +43,15 @@ fn put_capability(
         × (r ≤ at + sectionLimit capabilities (technologyBy id)) ⌝ }
 {
     if id == UWB {
-        return put_fields(
-            out,
-            at,
-            number,
-            b"UWB ",
-            7,
-            b"\x42\x07address\x04\x08channels\x04\x10preamble indexes\x04\x0Aconfig IDs\x02\x11shortest interval\x01\x0Dshortest slot\x01\x05roles",
-            left,
-            right,
-        );
+        return put_fields(out, at, number, b"UWB ", 7, &UWB_CAPABILITY, left, right);
     }
     if id == CS {
-        return put_fields(
-            out,
-            at,
-            number,
-            b"CS ",
-            2,
-            b"\x01\x0Esecurity types\x46\x07address",
-            left,
-            right,
-        );
+        return put_fields(out, at, number, b"CS ", 2, &CS_CAPABILITY, left, right);
     }
     if id == NAN {
-        return put_fields(
-            out,
-            at,
-            number,
-            b"NAN ",
-            4,
-            b"\x01\x08features\x01\x08periodic\x01\x09bandwidth\x01\x0Ereceive chains",
-            left,
-            right,
-        );
+        return put_fields(out, at, number, b"NAN ", 4, &NAN_CAPABILITY, left, right);
     }
-    put_fields(
-        out,
-        at,
-        number,
-        b"RSSI ",
-        1,
-        b"\x46\x07address",
-        left,
-        right,
-    )
+    put_fields(out, at, number, b"RSSI ", 1, &RSSI_BLOCK, left, right)
 }
 
 // Two blocks of message 2.
@@ -92,45 +74,18 @@ fn put_configuration(
             number,
             b"UWB ",
             12,
-            b"\x42\x07address\x04\x0Asession ID\x01\x09config ID\x01\x07channel\x01\x0Epreamble index\x02\x08interval\x01\x04slot\x01\x0Akey length\xA0\x03key\x42\x07country\x01\x04role\x01\x04mode",
+            &UWB_CONFIGURATION,
             left,
             right,
         );
     }
     if id == CS {
-        return put_fields(
-            out,
-            at,
-            number,
-            b"CS ",
-            2,
-            b"\x01\x0Esecurity level\x46\x07address",
-            left,
-            right,
-        );
+        return put_fields(out, at, number, b"CS ", 2, &CS_CONFIGURATION, left, right);
     }
     if id == NAN {
-        return put_fields(
-            out,
-            at,
-            number,
-            b"NAN ",
-            4,
-            b"\x01\x0Bname length\xC0\x04name\x01\x04role\x01\x08periodic",
-            left,
-            right,
-        );
+        return put_fields(out, at, number, b"NAN ", 4, &NAN_CONFIGURATION, left, right);
     }
-    put_fields(
-        out,
-        at,
-        number,
-        b"RSSI ",
-        1,
-        b"\x46\x07address",
-        left,
-        right,
-    )
+    put_fields(out, at, number, b"RSSI ", 1, &RSSI_BLOCK, left, right)
 }
 
 // A place that is kept in 16 bits.
