@@ -9,7 +9,7 @@ use lib.ListN.{length, getD, take, drop, replicate, length-drop}
 use lib.Seq.{take-at, take-all, getD-take, getD-drop}
 use borrow.Author.Tests.{lt-ltb, le-ltb, ltb-true, leb-true, ne-eqb}
 use Rattle.codec.specs.Octets.{part, ofLE}
-use Rattle.codec.specs.Technology.{Technology, uwb, cs, nan, rssi, technologyId, inBoth}
+use Rattle.codec.specs.Technology.{Technology, uwb, cs, nan, rssi, technologyId, bit, inBoth}
 use Rattle.codec.specs.Layout.{Layout, number, octets, counted, value}
 use Rattle.codec.specs.Blocks.{Column, capabilities, configurations, cell}
 use Rattle.codec.specs.Inner.Places.{Roomy}
@@ -22,7 +22,7 @@ use Rattle.bench_log.specs.Text.{ascii}
 use Rattle.bench_log.specs.Fields.{amount, string, prefix}
 use Rattle.bench_log.specs.Comparison.{difference, differenceLines}
 use Rattle.bench_log.specs.Inner.Coded.{Item, itemsOf, decoded, whole, plain, width, most, contentsBy, itemDifferences, Within, linesLimit, Ready}
-use Rattle.bench_log.specs.Inner.Differences.{blockDifferences, technologyBy, blockAt, sectionLimit, BlockReady, sectionAt, SectionReady, SectionsReady}
+use Rattle.bench_log.specs.Inner.Differences.{blockDifferences, technologyBy, blockAt, sectionLimit, BlockReady, sectionIn, SectionReady, SectionsReady}
 
 -- the number in a part
 number-in : (w i at n : ℕ) (s : List ℕ) → i + w ≤ n → ofLE w i (part at n s) ≡ ofLE w (at + i) s
@@ -196,32 +196,55 @@ module _ (k : Column) {t u : Technology} (same : t ≡ u) {l r d : List ℕ} {at
       = rw (e, i) (items-differ (prefix u) (cell k u) (cell-small k u) l 2 r 2 (g .left) (g .right)) in
       rw same (rw text at (p .0), rw i at (p .1))
 
--- at places of two messages
-module _ (k : Column) (t : Technology) {l r d : List ℕ} {a b at : ℕ} {present : Bool} (h : SectionReady present k t l a r b at d) where
-  pub section-none : (n : ℕ) → present ≡ false → Put d at (differenceLines n (sectionAt present k t l a r b)) d at × (at ≤ at + sectionLimit k t)
-  unfolding sectionAt differenceLines flatten
-  section-none n e = (rw e (put-none d at (omega (arith, h .room))), omega arith)
+-- at places of two messages, for the technology of an ID
+pub id-by : (id : ℕ) → id < 4 → technologyId (technologyBy id) ≡ id
+unfolding technologyBy
+id-by zero h = refl
+id-by (suc zero) h = refl
+id-by (suc (suc zero)) h = refl
+id-by (suc (suc (suc zero))) h = refl
+id-by (suc (suc (suc (suc n)))) h = absurd (omega arith)
 
-  module _ (e : present ≡ true) where
+module _ (k : Column) (id : ℕ) (below : id < 4) {s u at : ℕ} {l places r others d : List ℕ} (h : SectionReady k (technologyBy id) s u l places r others at d) {present : Bool} (e : present ≡ (bit s id && bit u id)) where
+  abbrev a : ℕ
+  a = getD places id 0
+
+  abbrev b : ℕ
+  b = getD others id 0
+
+  both : inBoth s u (technologyBy id) ≡ present
+  both = rw (id-by id below) (sym e)
+
+  pub section-none : (n : ℕ) → present ≡ false → Put d at (differenceLines n (sectionIn k s u l places r others (technologyBy id))) d at × (at ≤ at + sectionLimit k (technologyBy id))
+  unfolding sectionIn differenceLines flatten
+  section-none n f = (rw (both, f) (put-none d at (omega (arith, h .room))), omega arith)
+
+  module _ (p : present ≡ true) where
     abbrev from : List ℕ → ℕ → List ℕ
     from m x = take (length m - x) (drop x m)
 
     all : (m : List ℕ) (x : ℕ) → from m x ≡ drop x m
     all m x = take-all (length m - x) (drop x m) (simp length-drop (omega arith))
 
+    left : Roomy (cell k (technologyBy id)) 2 (drop a l)
+    left = rw (id-by id below) at (h .left (both ∙ p))
+
+    right : Roomy (cell k (technologyBy id)) 2 (drop b r)
+    right = rw (id-by id below) at (h .right (both ∙ p))
+
     pub section-left : a ≤ length l
-    section-left = omega (arith, roomy-from (cell k t) 2 (drop a l) (h .left e), length-drop a l)
+    section-left = omega (arith, roomy-from (cell k (technologyBy id)) 2 (drop a l) left, length-drop a l)
 
     pub section-right : b ≤ length r
-    section-right = omega (arith, roomy-from (cell k t) 2 (drop b r) (h .right e), length-drop b r)
+    section-right = omega (arith, roomy-from (cell k (technologyBy id)) 2 (drop b r) right, length-drop b r)
 
-    pub section-ready : BlockReady k t (from l a) (from r b) at d
-    section-ready = record { left = rw (all l a) (h .left e); right = rw (all r b) (h .right e); room = h .room }
+    pub section-ready : BlockReady k (technologyBy id) (from l a) (from r b) at d
+    section-ready = record { left = rw (all l a) left; right = rw (all r b) right; room = h .room }
 
-    pub section-put : (n : ℕ) {f : List ℕ} {q : ℕ} → Put d at (differenceLines n (blockAt k t (from l a) (from r b))) f q × (q ≤ at + sectionLimit k t)
-        → Put d at (differenceLines n (sectionAt present k t l a r b)) f q × (q ≤ at + sectionLimit k t)
-    unfolding sectionAt
-    section-put n p = (rw e (rw (all l a, all r b) at (p .0)), p .1)
+    pub section-put : (n : ℕ) {f : List ℕ} {q : ℕ} → Put d at (differenceLines n (blockAt k (technologyBy id) (from l a) (from r b))) f q × (q ≤ at + sectionLimit k (technologyBy id))
+        → Put d at (differenceLines n (sectionIn k s u l places r others (technologyBy id))) f q × (q ≤ at + sectionLimit k (technologyBy id))
+    unfolding sectionIn
+    section-put n g = (rw (both, p, id-by id below) (rw (all l a, all r b) at (g .0)), g .1)
 
 -- the section of each technology, by its ID
 pub by-zero : technologyBy 0 ≡ uwb
@@ -236,7 +259,6 @@ by-two = is-nan refl
 pub by-three : technologyBy 3 ≡ rssi
 by-three = is-rssi (λ e. omega arith) (λ e. omega arith) (λ e. omega arith)
 
-pub section-of : (k : Column) (s u id : ℕ) {t : Technology} {l places r others d first : List ℕ} {at from : ℕ} {present : Bool} → technologyBy id ≡ t → present ≡ inBoth s u t
-    → SectionsReady k s u l places r others from first → at + sectionLimit k t ≤ length d
-    → SectionReady present k (technologyBy id) l (getD places (technologyId t) 0) r (getD others (technologyId t) 0) at d
-section-of k s u id {t} same e h room = rw same (record { left = λ y. h .left t (sym e ∙ y); right = λ y. h .right t (sym e ∙ y); room = room })
+pub section-of : (k : Column) (s u id : ℕ) {t : Technology} {l places r others d first : List ℕ} {at from : ℕ} → technologyBy id ≡ t
+    → SectionsReady k s u l places r others from first → at + sectionLimit k t ≤ length d → SectionReady k (technologyBy id) s u l places r others at d
+section-of k s u id {t} same h room = rw same (record { left = h .left t; right = h .right t; room = room })

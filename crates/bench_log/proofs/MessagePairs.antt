@@ -27,7 +27,7 @@ use Rattle.codec.specs.declared.records.Record.{Record}
 use Rattle.bench_log.specs.Fields.{prefix, messageIdName, amount}
 use Rattle.bench_log.specs.Comparison.{Difference, difference, differenceLines}
 use Rattle.bench_log.specs.Inner.Coded.{linesLimit}
-use Rattle.bench_log.specs.Inner.Differences.{sectionDifferences, columnDifferences, presenceDifference, messageDifferences, blockAt, sectionLimit, sectionAt, sectionIn, SectionsReady, readDifferences, messagesLimit, MessagesReady}
+use Rattle.bench_log.specs.Inner.Differences.{sectionDifferences, columnDifferences, presenceDifference, messageDifferences, blockAt, sectionLimit, sectionIn, SectionsReady, readDifferences, messagesLimit, MessagesReady}
 use Rattle.bench_log.proofs.Differences.{lines-append}
 
 column-in : (m places : List ℕ) (k : Column) → columnIn (recordAt m places) k ≡ columnFound m places k
@@ -79,7 +79,7 @@ module _ {l places r others d : List ℕ} {at : ℕ} (h : MessagesReady l places
     sections = flatten (map (sectionIn k s u l places r others) technologies)
 
     section-is : (t : Technology) → sectionDifferences a b k t ≡ sectionIn k s u l places r others t
-    unfolding sectionAt blockAt
+    unfolding sectionIn blockAt
     section-is t =
         by-bool (names s t)
         (λ y. by-bool (names u t)

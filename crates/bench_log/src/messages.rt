@@ -2,7 +2,6 @@
 use crate::difference::put_numbers;
 use crate::difference::wide;
 use crate::sections::put_section;
-use codec::both_have;
 use codec::message::CAPABILITY_RESPONSE;
 use codec::message::CONFIGURATION;
 use codec::technology::CS;
@@ -76,53 +75,33 @@ fn put_sections(
     ensures { λ r. ⌜ Put (now (out .entry)) at (differenceLines number (flatten (map (sectionIn (columnBy configuration) s u (now (left .entry)) (now (a .entry)) (now (right .entry)) (now (b .entry))) technologies))) (now (out .exit)) r
         × (r ≤ at + (sectionLimit (columnBy configuration) uwb + (sectionLimit (columnBy configuration) cs + (sectionLimit (columnBy configuration) nan + sectionLimit (columnBy configuration) rssi)))) ⌝ }
 {
-    let cs = put_section(
-        out,
-        at,
-        number,
-        UWB,
-        both_have(s, u, UWB),
-        configuration,
-        left,
-        a[0],
-        right,
-        b[0],
-    );
-    let nan = put_section(
-        out,
-        cs,
-        number,
-        CS,
-        both_have(s, u, CS),
-        configuration,
-        left,
-        a[1],
-        right,
-        b[1],
-    );
+    let cs = put_section(out, at, number, configuration, UWB, s, u, left, a, right, b);
+    let nan = put_section(out, cs, number, configuration, CS, s, u, left, a, right, b);
     let rssi = put_section(
         out,
         nan,
         number,
-        NAN,
-        both_have(s, u, NAN),
         configuration,
+        NAN,
+        s,
+        u,
         left,
-        a[2],
+        a,
         right,
-        b[2],
+        b,
     );
     put_section(
         out,
         rssi,
         number,
-        RSSI,
-        both_have(s, u, RSSI),
         configuration,
+        RSSI,
+        s,
+        u,
         left,
-        a[3],
+        a,
         right,
-        b[3],
+        b,
     )
 }
 

@@ -5,11 +5,11 @@ use codec::technology::CS;
 use codec::technology::NAN;
 use codec::technology::UWB;
 ghost use mathlib.Core.Path.{_≡_};
-ghost use Prim.Native.Nat.{_+_, _≤_};
+ghost use Prim.Native.Nat.{_+_, _≤_, _<_};
 ghost use Rattle.codec.specs.Blocks.{capabilities, configurations};
 ghost use Rattle.codec.specs.Inner.Puts.{Put};
 ghost use Rattle.bench_log.specs.Comparison.{differenceLines};
-ghost use Rattle.bench_log.specs.Inner.Differences.{technologyBy, columnBy, blockAt, BlockReady, sectionAt, sectionLimit, SectionReady};
+ghost use Rattle.bench_log.specs.Inner.Differences.{technologyBy, columnBy, blockAt, BlockReady, sectionIn, sectionLimit, SectionReady};
 
 // 01's table.
 const UWB_CAPABILITY: [u8; 90] =
@@ -88,6 +88,26 @@ fn put_configuration(
     put_fields(out, at, number, b"RSSI ", 1, &RSSI_BLOCK, left, right)
 }
 
+// Two blocks of message 2 or of message 1.
+fn put_blocks(
+    out: &mut [u8],
+    at: usize,
+    number: u64,
+    configuration: bool,
+    id: u8,
+    left: &[u8],
+    right: &[u8],
+) -> usize
+    requires { ⌜ BlockReady (columnBy configuration) (technologyBy id) (now left) (now right) at (now out) ⌝ }
+    ensures { λ r. ⌜ Put (now (out .entry)) at (differenceLines number (blockAt (columnBy configuration) (technologyBy id) (now (left .entry)) (now (right .entry)))) (now (out .exit)) r
+        × (r ≤ at + sectionLimit (columnBy configuration) (technologyBy id)) ⌝ }
+{
+    if configuration {
+        return put_configuration(out, at, number, id, left, right);
+    }
+    put_capability(out, at, number, id, left, right)
+}
+
 // A place that is kept in 16 bits.
 fn wide(place: u16) -> usize
     ensures { λ r. ⌜ r ≡ place ⌝ }
@@ -95,30 +115,29 @@ fn wide(place: u16) -> usize
     place as usize
 }
 
-// The section of a technology: its blocks begin at places of two messages, if it is present in both.
+// The section of a technology, if it is in both of two sets: its blocks begin at places of two messages.
 pub(crate) fn put_section(
     out: &mut [u8],
     at: usize,
     number: u64,
-    id: u8,
-    present: bool,
     configuration: bool,
+    id: u8,
+    s: u16,
+    u: u16,
     left: &[u8],
-    a: u16,
+    a: &[u16; 5],
     right: &[u8],
-    b: u16,
+    b: &[u16; 5],
 ) -> usize
-    requires { ⌜ SectionReady present (columnBy configuration) (technologyBy id) (now left) a (now right) b at (now out) ⌝ }
-    ensures { λ r. ⌜ Put (now (out .entry)) at (differenceLines number (sectionAt present (columnBy configuration) (technologyBy id) (now (left .entry)) a (now (right .entry)) b)) (now (out .exit)) r
+    requires { ⌜ (id < 4) × SectionReady (columnBy configuration) (technologyBy id) s u (now left) (now a) (now right) (now b) at (now out) ⌝ }
+    ensures { λ r. ⌜ Put (now (out .entry)) at (differenceLines number (sectionIn (columnBy configuration) s u (now (left .entry)) (now (a .entry)) (now (right .entry)) (now (b .entry)) (technologyBy id))) (now (out .exit)) r
         × (r ≤ at + sectionLimit (columnBy configuration) (technologyBy id)) ⌝ }
 {
-    if !present {
+    if !codec::both_have(s, u, id) {
         return at;
     }
-    let x = wide(a);
-    let y = wide(b);
-    if configuration {
-        return put_configuration(out, at, number, id, &left[x..], &right[y..]);
-    }
-    put_capability(out, at, number, id, &left[x..], &right[y..])
+    let i = id as usize;
+    let x = wide(a[i]);
+    let y = wide(b[i]);
+    put_blocks(out, at, number, configuration, id, &left[x..], &right[y..])
 }

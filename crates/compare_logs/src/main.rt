@@ -9,7 +9,7 @@ ghost use Prim.Native.Nat.{_≤_};
 ghost use lib.ListN.{length};
 
 // A piece of a log has so many records.
-const RECORDS: usize = 64;
+const RECORDS: usize = 252;
 
 const PIECE_SIZE: usize = RECORDS * RECORD_SIZE;
 

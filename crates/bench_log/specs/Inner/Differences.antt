@@ -68,22 +68,21 @@ pub record BlockReady (k : Column) (t : Technology) (l r : List ℕ) (at : ℕ) 
   pub right : Roomy (cell k t) 2 r
   pub room : at + sectionLimit k t ≤ length d
 
--- the same at places of two messages, if it is present in both
-unfoldable pub sectionAt : Bool → Column → Technology → List ℕ → ℕ → List ℕ → ℕ → List Difference
-sectionAt present k t l a r b = cond present (blockAt k t (drop a l) (drop b r)) []
+-- the same at places of two messages, if it is in both of their sets
+unfoldable pub sectionIn : Column → (setLeft setRight : ℕ) → List ℕ → List ℕ → List ℕ → List ℕ → Technology → List Difference
+sectionIn k s u l places r others t = cond (inBoth s u t) (blockAt k t (drop (getD places (technologyId t) 0) l) (drop (getD others (technologyId t) 0) r)) []
 
-pub record SectionReady (present : Bool) (k : Column) (t : Technology) (l : List ℕ) (a : ℕ) (r : List ℕ) (b at : ℕ) (d : List ℕ) : Type 0 where
-  pub left : present ≡ true → Roomy (cell k t) 2 (drop a l)
-  pub right : present ≡ true → Roomy (cell k t) 2 (drop b r)
+abbrev pub SectionThere : Column → Technology → (setLeft setRight : ℕ) → List ℕ → List ℕ → Type 0
+SectionThere k t s u m places = inBoth s u t ≡ true → Roomy (cell k t) 2 (drop (getD places (technologyId t) 0) m)
+
+pub record SectionReady (k : Column) (t : Technology) (s u : ℕ) (l places r others : List ℕ) (at : ℕ) (d : List ℕ) : Type 0 where
+  pub left : SectionThere k t s u l places
+  pub right : SectionThere k t s u r others
   pub room : at + sectionLimit k t ≤ length d
 
--- the sections of two messages whose blocks begin at these places
-abbrev pub sectionIn : Column → (setLeft setRight : ℕ) → List ℕ → List ℕ → List ℕ → List ℕ → Technology → List Difference
-sectionIn k s u l places r others t = sectionAt (inBoth s u t) k t l (getD places (technologyId t) 0) r (getD others (technologyId t) 0)
-
 pub record SectionsReady (k : Column) (s u : ℕ) (l places r others : List ℕ) (at : ℕ) (d : List ℕ) : Type 0 where
-  pub left : (t : Technology) → inBoth s u t ≡ true → Roomy (cell k t) 2 (drop (getD places (technologyId t) 0) l)
-  pub right : (t : Technology) → inBoth s u t ≡ true → Roomy (cell k t) 2 (drop (getD others (technologyId t) 0) r)
+  pub left : (t : Technology) → SectionThere k t s u l places
+  pub right : (t : Technology) → SectionThere k t s u r others
   pub room : at + (sectionLimit k uwb + (sectionLimit k cs + (sectionLimit k nan + sectionLimit k rssi))) ≤ length d
 
 -- ---- two accepted messages, with the places of their blocks
