@@ -6,7 +6,7 @@ use mathlib.Core.List.{List, [], _∷_, _++_, flatten}
 use mathlib.Core.Bool.{Bool, true, false, _&&_, not, cond}
 use lib.Dec.{leb, ltb}
 use lib.ListN.{length, getD, take, drop, replicate, length-drop}
-use lib.Seq.{take-at, take-all, getD-take, getD-drop}
+use lib.Seq.{take-at, getD-take, getD-drop}
 use borrow.Author.Tests.{lt-ltb, le-ltb, ltb-true, leb-true, ne-eqb}
 use Rattle.codec.specs.Octets.{part, ofLE}
 use Rattle.codec.specs.Technology.{Technology, uwb, cs, nan, rssi, technologyId, bit, inBoth}
@@ -15,7 +15,7 @@ use Rattle.codec.specs.Blocks.{Column, capabilities, configurations, cell}
 use Rattle.codec.specs.Inner.Places.{Roomy}
 use Rattle.codec.specs.Inner.Puts.{Put}
 use Rattle.codec.proofs.Outcomes.{and-true}
-use Rattle.codec.proofs.Laws.{part-length}
+use Rattle.codec.proofs.Laws.{part-length, suffix}
 use Rattle.codec.proofs.Layouts.{roomy-from}
 use Rattle.codec.proofs.Puts.{put-none}
 use Rattle.bench_log.specs.Text.{ascii}
@@ -223,9 +223,6 @@ module _ (k : Column) (id : ℕ) (below : id < 4) {s u at : ℕ} {l places r oth
     abbrev from : List ℕ → ℕ → List ℕ
     from m x = take (length m - x) (drop x m)
 
-    all : (m : List ℕ) (x : ℕ) → from m x ≡ drop x m
-    all m x = take-all (length m - x) (drop x m) (simp length-drop (omega arith))
-
     left : Roomy (cell k (technologyBy id)) 2 (drop a l)
     left = rw (id-by id below) at (h .left (both ∙ p))
 
@@ -239,12 +236,12 @@ module _ (k : Column) (id : ℕ) (below : id < 4) {s u at : ℕ} {l places r oth
     section-right = omega (arith, roomy-from (cell k (technologyBy id)) 2 (drop b r) right, length-drop b r)
 
     pub section-ready : BlockReady k (technologyBy id) (from l a) (from r b) at d
-    section-ready = record { left = rw (all l a) left; right = rw (all r b) right; room = h .room }
+    section-ready = record { left = rw (suffix a l) left; right = rw (suffix b r) right; room = h .room }
 
     pub section-put : (n : ℕ) {f : List ℕ} {q : ℕ} → Put d at (differenceLines n (blockAt k (technologyBy id) (from l a) (from r b))) f q × (q ≤ at + sectionLimit k (technologyBy id))
         → Put d at (differenceLines n (sectionIn k s u l places r others (technologyBy id))) f q × (q ≤ at + sectionLimit k (technologyBy id))
     unfolding sectionIn
-    section-put n g = (rw (both, p, id-by id below) (rw (all l a, all r b) at (g .0)), g .1)
+    section-put n g = (rw (both, p, id-by id below) (rw (suffix a l, suffix b r) at (g .0)), g .1)
 
 -- the section of each technology, by its ID
 pub by-zero : technologyBy 0 ≡ uwb

@@ -13,7 +13,7 @@ use Rattle.codec.specs.Records.{answer}
 use Rattle.codec.specs.declared.records.Record.{Record}
 use Rattle.codec.proofs.Outcomes.{by-bool, and-true}
 use Rattle.bench_log.specs.LogRecord.{readingOf, directionOf}
-use Rattle.bench_log.specs.Fields.{Contents, amount, FieldOf, messageIdName, headFields, messageFields, fieldsFrom, directionName, refusalName}
+use Rattle.bench_log.specs.Fields.{Contents, amount, LogField, messageIdName, headFields, messageFields, fieldsFrom, directionName, refusalName}
 use Rattle.bench_log.specs.Comparison.{same, alike, Difference, contentsIn, difference, against, differing, shown, firstNames, Differs}
 use Rattle.bench_log.specs.Inner.Pairs.{directionDifference, headDifferences}
 use Rattle.bench_log.proofs.Equals.{same-self, same-equal, amount-equal, alike-self, alike-equal}
@@ -45,29 +45,29 @@ unfolding difference
 difference-one name x y n = by-bool (alike x y) (λ t. absurd (n (alike-equal x y t))) (λ t. rw t (List·Memᴰ·head refl))
 
 -- what is held on either side under its name, and not equal
-abbrev Facts : List FieldOf → List FieldOf → Difference → Type 0
+abbrev Facts : List LogField → List LogField → Difference → Type 0
 Facts fs gs d = (contentsIn fs (d .name) ≡ some (d .left)) × (contentsIn gs (d .name) ≡ some (d .right)) × (d .left ≡ d .right → ⊥)
 
 -- no name comes twice
-abbrev Lonely : List FieldOf → Type 0
+abbrev Lonely : List LogField → Type 0
 Lonely [] = Unit {0}
 Lonely (f ∷ fs) = (contentsIn fs (f .name) ≡ none) × Lonely fs
 
-here-facts : (f : FieldOf) (fs gs : List FieldOf) (o : Option Contents) (d : Difference) → contentsIn gs (f .name) ≡ o → List·Memᴰ d (against f o) → Facts (f ∷ fs) gs d
+here-facts : (f : LogField) (fs gs : List LogField) (o : Option Contents) (d : Difference) → contentsIn gs (f .name) ≡ o → List·Memᴰ d (against f o) → Facts (f ∷ fs) gs d
 unfolding contentsIn
 here-facts f fs gs none d e m = absurd (List·Memᴰ·not-nil m)
 here-facts f fs gs (some y) d e m =
     let o = one-difference (f .name) (f .contents) y d m in
     subst (Facts (f ∷ fs) gs) (sym (o .0)) (rw (same-self (f .name)), e, o .1)
 
-there-facts : (f : FieldOf) (fs gs : List FieldOf) (d : Difference) → contentsIn fs (f .name) ≡ none → Facts fs gs d → Facts (f ∷ fs) gs d
+there-facts : (f : LogField) (fs gs : List LogField) (d : Difference) → contentsIn fs (f .name) ≡ none → Facts fs gs d → Facts (f ∷ fs) gs d
 unfolding contentsIn
 there-facts f fs gs d n h =
     by-bool (same (f .name) (d .name))
     (λ t. absurd (not-none (sym n ∙ ap (contentsIn fs) (same-equal (f .name) (d .name) t) ∙ h .0)))
     (λ t. (rw t (h .0), h .1, h .2))
 
-differing-facts : (fs gs : List FieldOf) → Lonely fs → (d : Difference) → List·Memᴰ d (differing fs gs) → Facts fs gs d
+differing-facts : (fs gs : List LogField) → Lonely fs → (d : Difference) → List·Memᴰ d (differing fs gs) → Facts fs gs d
 unfolding differing
 differing-facts [] gs l d m = absurd (List·Memᴰ·not-nil m)
 differing-facts (f ∷ fs) gs l d m = go (differing-facts fs gs (l .1) d) (List·Memᴰ·append-cases (against f (contentsIn gs (f .name))) m)
@@ -76,7 +76,7 @@ differing-facts (f ∷ fs) gs l d m = go (differing-facts fs gs (l .1) d) (List�
     go rest (inl m) = here-facts f fs gs (contentsIn gs (f .name)) d refl m
     go rest (inr m) = there-facts f fs gs d (l .0) (rest m)
 
-facts-differing : (fs gs : List FieldOf) (d : Difference) → Facts fs gs d → List·Memᴰ d (differing fs gs)
+facts-differing : (fs gs : List LogField) (d : Difference) → Facts fs gs d → List·Memᴰ d (differing fs gs)
 unfolding differing contentsIn
 facts-differing [] gs d h = absurd (not-none (h .0))
 facts-differing (f ∷ fs) gs d h =
@@ -90,7 +90,7 @@ facts-differing (f ∷ fs) gs d h =
 
 -- ---- the fields of a record have different names
 
-held-lonely : (x : List ℕ) (o : Option Contents) (fs : List FieldOf) → contentsIn fs x ≡ none → Lonely fs → Lonely (held x o ++ fs)
+held-lonely : (x : List ℕ) (o : Option Contents) (fs : List LogField) → contentsIn fs x ≡ none → Lonely fs → Lonely (held x o ++ fs)
 held-lonely x none fs n l = l
 held-lonely x (some c) fs n l = (n, l)
 
@@ -116,10 +116,10 @@ Said dl l dr r d =
 
 -- all that differ, where nothing is cut
 module _ (dl dr : ℕ) (l r : Checked Record) (uncut : shownFrom dl l dr r ≡ differing (fieldsFrom dl l) (fieldsFrom dr r))
-    (inTime : (d : Difference) → List·Memᴰ d (shownFrom dl l dr r) → List·Memᴰ (d .name) firstNames ⊎ (contentsIn (fieldsFrom dl l) messageIdName ≡ contentsIn (fieldsFrom dr r) messageIdName)) where
+    (reached : (d : Difference) → List·Memᴰ d (shownFrom dl l dr r) → List·Memᴰ (d .name) firstNames ⊎ (contentsIn (fieldsFrom dl l) messageIdName ≡ contentsIn (fieldsFrom dr r) messageIdName)) where
   uncut-exactly : (d : Difference) → List·Memᴰ d (shownFrom dl l dr r) ↔ Said dl l dr r d
   uncut-exactly d = (
-    λ m. (differing-facts (fieldsFrom dl l) (fieldsFrom dr r) (fields-lonely dl l) d (subst (List·Memᴰ d) uncut m), inTime d m),
+    λ m. (differing-facts (fieldsFrom dl l) (fieldsFrom dr r) (fields-lonely dl l) d (subst (List·Memᴰ d) uncut m), reached d m),
     λ h. subst (List·Memᴰ d) (sym uncut) (facts-differing (fieldsFrom dl l) (fieldsFrom dr r) d (h .0)),
   )
 
@@ -132,7 +132,7 @@ heads-named dl dr n m d h = go (List·Memᴰ·append-cases (directionDifference 
     go (inr x) = List·Memᴰ·tail (List·Memᴰ·head (ap (λ (d : Difference). d .name) (one-difference refusalName (amount n) (amount m) d x .0)))
 
 -- a difference by its name
-by-name : (fs gs : List FieldOf) (d : Difference) (name : List ℕ) (x y : Contents) → Facts fs gs d → d .name ≡ name → contentsIn fs name ≡ some x → contentsIn gs name ≡ some y
+by-name : (fs gs : List LogField) (d : Difference) (name : List ℕ) (x y : Contents) → Facts fs gs d → d .name ≡ name → contentsIn fs name ≡ some x → contentsIn gs name ≡ some y
     → List·Memᴰ d (difference name x y)
 by-name fs gs d name x y h e f g =
     let l : d .left ≡ x = some-equal (sym (h .0) ∙ ap (contentsIn fs) e ∙ f) in
@@ -155,10 +155,10 @@ module _ (dl dr : ℕ) (a b : Record) (unequal : a .id ≡ b .id → ⊥) where
       subst (Said dl (accept a) dr (accept b)) (sym (o .0)) ((refl, refl, o .1), inl (List·Memᴰ·tail (List·Memᴰ·tail (List·Memᴰ·head refl))))
 
   -- a field of the first three
-  abbrev F : List FieldOf
+  abbrev F : List LogField
   F = fieldsFrom dl (accept a)
 
-  abbrev G : List FieldOf
+  abbrev G : List LogField
   G = fieldsFrom dr (accept b)
 
   of-id : (d : Difference) → Facts F G d → d .name ≡ messageIdName → List·Memᴰ d (directionDifference dl dr ++ ids)
@@ -214,6 +214,6 @@ exactly-from dl dr (accept a) (accept b) =
 pub shown-exactly : (l r : List ℕ) (d : Difference) → List·Memᴰ d (shown l r) ↔ Differs l r d
 shown-exactly l r d =
     let e = exactly-from (directionOf l) (directionOf r) (readingOf l) (readingOf r) d in (
-      λ m. let h = e .0 m in record { inLeft = h .0 .0; inRight = h .0 .1; unequal = h .0 .2; inTime = h .1 },
-      λ h. e .1 ((h .inLeft, h .inRight, h .unequal), h .inTime),
+      λ m. let h = e .0 m in record { inLeft = h .0 .0; inRight = h .0 .1; unequal = h .0 .2; reached = h .1 },
+      λ h. e .1 ((h .inLeft, h .inRight, h .unequal), h .reached),
     )

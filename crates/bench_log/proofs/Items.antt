@@ -10,6 +10,7 @@ use Rattle.codec.specs.Inner.Puts.{over, Put}
 use Rattle.codec.proofs.Outcomes.{by-bool}
 use Rattle.codec.proofs.Puts.{put-then, put-last, put-none}
 use Rattle.bench_log.specs.Items.{textsFrom, howMany, countersAfter, textsAfter, Tells, oneMore, tally}
+use Rattle.bench_log.specs.Inner.Items.{SoFar}
 
 pub all-counted : {A : Type 0} (xs : List A) → howMany (λ x. true) xs ≡ length xs
 all-counted [] = refl
@@ -42,21 +43,22 @@ module _ {A S : Type 0} (say : S → A → List ℕ) (next : S → A → S) wher
         let n : number (next s x) ≡ number s + 1 = counts s x ∙ omega arith in
         rw (says s x, all-numbered (next s x) xs (omega (arith, n)), n)
 
-  -- items that are laid out so far: the counters, the buffer before and after, and how many of its octets are text
-  pub record SoFar (xs : List A) (s : S) (d : List ℕ) (u : S) (e : List ℕ) (n : ℕ) : Type 0 where
-    pub counts : u ≡ countersAfter next s xs
-    pub texts : Put d 0 (textsAfter say next s xs) e n
+  abbrev Laid : List A → S → List ℕ → ℕ → S → List ℕ → ℕ → Type 0
+  Laid xs s d at u e n = SoFar say next xs s d at u e n
 
-  pub none-told : (s : S) (d : List ℕ) → SoFar [] s d s d 0
-  none-told s d = record { counts = refl; texts = put-none d 0 (omega arith) }
+  pub none-told : (s : S) (d : List ℕ) (at : ℕ) → at ≤ length d → Laid [] s d at s d at
+  none-told s d at h = record { counts = refl; texts = put-none d at h }
 
-  pub one-told : {xs : List A} {s u v : S} {d e f : List ℕ} {n p : ℕ} (x : A) → SoFar xs s d u e n → v ≡ next u x → Put e n (say u x) f p → SoFar (xs ++ (x ∷ [])) s d v f p
-  one-told {xs} {s} x l c w = record {
-    counts = c ∙ ap (λ (u : S). next u x) (l .counts) ∙ sym (counters-append next s xs (x ∷ []));
-    texts = rw (texts-append s xs (x ∷ [])) (put-then (l .texts) (put-last (rw (l .counts) at w)));
+  pub more-told : {xs ys : List A} {s u v : S} {d e f : List ℕ} {at n p : ℕ} → Laid xs s d at u e n → Laid ys u e n v f p → Laid (xs ++ ys) s d at v f p
+  more-told {xs} {ys} {s} a b = record {
+    counts = b .counts ∙ ap (λ (u : S). countersAfter next u ys) (a .counts) ∙ sym (counters-append next s xs ys);
+    texts = rw (texts-append s xs ys) (put-then (a .texts) (rw (a .counts) at (b .texts)));
   }
 
-  pub all-told : {xs : List A} {s u : S} {d e : List ℕ} {n : ℕ} → SoFar xs s d u e n → Tells say next xs s d u n e
+  pub one-told : {xs : List A} {s u v : S} {d e f : List ℕ} {at n p : ℕ} (x : A) → Laid xs s d at u e n → v ≡ next u x → Put e n (say u x) f p → Laid (xs ++ (x ∷ [])) s d at v f p
+  one-told x l c w = more-told l (record { counts = c; texts = put-last w })
+
+  pub all-told : {xs : List A} {s u : S} {d e : List ℕ} {n : ℕ} → Laid xs s d 0 u e n → Tells say next xs s d u n e
   unfolding over
   all-told {xs} {s} {u} {d} {e} {n} l =
       let z : 0 + length (textsAfter say next s xs) ≡ length (textsAfter say next s xs) = omega arith in

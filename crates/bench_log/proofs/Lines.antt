@@ -19,7 +19,8 @@ use Rattle.bench_log.specs.Listing.{letter, verdict, line, lastLine, lis
 use Rattle.bench_log.specs.declared.entry.Entry.{Entry}
 use Rattle.bench_log.specs.declared.totals.Totals.{Totals}
 use Rattle.bench_log.proofs.Decimals.{few-digits}
-use Rattle.bench_log.proofs.Items.{SoFar, one-told, all-told}
+use Rattle.bench_log.specs.Inner.Items.{SoFar}
+use Rattle.bench_log.proofs.Items.{one-told, all-told}
 use Rattle.bench_log.proofs.Records.{next-record}
 
 pub last-line-length : (t : Totals) (tail : ℕ) → length (lastLine t tail)
@@ -50,14 +51,14 @@ entry-limit e r i s =
     )
 
 -- one record more is listed, as the code takes it
-pub one-listed : (piece : List ℕ) (i : ℕ) {t u v : Totals} {d b f : List ℕ} {n p : ℕ} (e : Entry) → SoFar nextLine nextTotals (recordsIn i piece) t d u b n
+pub one-listed : (piece : List ℕ) (i : ℕ) {t u v : Totals} {d b f : List ℕ} {n p : ℕ} (e : Entry) → SoFar nextLine nextTotals (recordsIn i piece) t d 0 u b n
     → e ≡ entryOf (part (i * recordSize) (i * recordSize + recordSize - i * recordSize) piece) → v ≡ counted u e → Put b n (line (u .records) e) f p
-    → SoFar nextLine nextTotals (recordsIn (i + 1) piece) t d v f p
+    → SoFar nextLine nextTotals (recordsIn (i + 1) piece) t d 0 v f p
 one-listed piece i {t} {u} {v} {d} {b} {f} {n} {p} e l q c w =
-    subst (λ (rs : List (List ℕ)). SoFar nextLine nextTotals rs t d v f p) (next-record i piece)
+    subst (λ (rs : List (List ℕ)). SoFar nextLine nextTotals rs t d 0 v f p) (next-record i piece)
     (one-told nextLine nextTotals (part (i * recordSize) (i * recordSize + recordSize - i * recordSize) piece) l (rw q at c) (rw q at w))
 
-pub all-listed : (piece : List ℕ) (i : ℕ) {t u : Totals} {d e : List ℕ} {n : ℕ} → i ≡ listable piece d → SoFar nextLine nextTotals (recordsIn i piece) t d u e n
+pub all-listed : (piece : List ℕ) (i : ℕ) {t u : Totals} {d e : List ℕ} {n : ℕ} → i ≡ listable piece d → SoFar nextLine nextTotals (recordsIn i piece) t d 0 u e n
     → Lists piece t d (record { totals = u; length = n }) e
 all-listed piece i {t} {u} {d} {e} {n} k l = subst (λ (i : ℕ). Tells nextLine nextTotals (recordsIn i piece) t d u n e) k (all-told nextLine nextTotals l)
 

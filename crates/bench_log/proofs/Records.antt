@@ -2,10 +2,10 @@
 use Prim.Native.Nat.{ℕ, zero, suc, _+_, _-_, _*_, _/_, _≤_}
 use native.Mathlib.Omega.{arith}
 use native.Mathlib.Numerals.{add-one}
-use mathlib.Core.Path.{_≡_, refl, sym, ap, _∙_}
+use mathlib.Core.Path.{_≡_, refl}
 use mathlib.Core.List.{List, [], _∷_, _++_, append-assoc, append-nil}
-use lib.ListN.{length, take, drop, length-append, length-drop, take-append-drop}
-use lib.Seq.{length-take-le, take-append-le, drop-append-le, drop-append-add}
+use lib.ListN.{length, take, drop, length-append, length-drop}
+use lib.Seq.{take-append-le, drop-append-le, drop-drop}
 use Rattle.codec.specs.Octets.{part}
 use Rattle.bench_log.specs.LogRecord.{recordSize, recordsIn, wholeRecords}
 
@@ -20,29 +20,20 @@ records-first (suc m) a b h =
     let t : take recordSize (drop (m * recordSize) a ++ b) ≡ take recordSize (drop (m * recordSize) a) = take-append-le recordSize (drop (m * recordSize) a) b (simp length-drop (omega arith)) in
     rw (records-first m a b (omega arith), d, t)
 
-records-append : (m k : ℕ) (a b : List ℕ) → length a ≡ m * recordSize → recordsIn (m + k) (a ++ b) ≡ recordsIn m a ++ recordsIn k b
-records-append m zero a b h = let z : m + 0 ≡ m = omega arith in rw (z, append-nil (recordsIn m a)) (records-first m a b (omega arith))
-records-append m (suc k) a b h =
+-- some records, and then others
+pub records-split : (m k : ℕ) (log : List ℕ) → recordsIn (m + k) log ≡ recordsIn m log ++ recordsIn k (drop (m * recordSize) log)
+records-split m zero log = let z : m + 0 ≡ m = omega arith in rw (z, append-nil (recordsIn m log))
+records-split m (suc k) log =
     let n : m + suc k ≡ suc (m + k) = omega arith in
-    let at : (m + k) * recordSize ≡ length a + k * recordSize = omega arith in
-    rw (n, records-append m k a b h, at, drop-append-add a b (k * recordSize)) (append-assoc (recordsIn m a) (recordsIn k b) _)
-
-whole-append : (k : ℕ) (a b : List ℕ) → length a ≡ k * recordSize → wholeRecords (a ++ b) ≡ recordsIn k a ++ wholeRecords b
-whole-append k a b h =
-    let n : length (a ++ b) / recordSize ≡ k + length b / recordSize = simp length-append (omega arith) in
-    rw n (records-append k (length b / recordSize) a b h)
+    let at : (m + k) * recordSize ≡ m * recordSize + k * recordSize = omega arith in
+    rw (n, records-split m k log, at, ← drop-drop (k * recordSize) (m * recordSize) log) (append-assoc (recordsIn m log) (recordsIn k (drop (m * recordSize) log)) _)
 
 -- what is left of a log after records of a piece
 pub left : (k : ℕ) (p rest : List ℕ) → k * recordSize ≤ length p
     → wholeRecords (p ++ rest) ≡ recordsIn k p ++ wholeRecords (drop (k * recordSize) p ++ rest)
 left k p rest h =
-    let a = take (k * recordSize) p in
-    let b = drop (k * recordSize) p in
-    let l : length a ≡ k * recordSize = length-take-le (k * recordSize) p h in
-    let e : p ≡ a ++ b = sym (take-append-drop (k * recordSize) p) in
-    let f : recordsIn k p ≡ recordsIn k a = ap (recordsIn k) e ∙ records-first k a b (omega arith) in
-    let g : p ++ rest ≡ a ++ (b ++ rest) = ap (λ (x : List ℕ). x ++ rest) e ∙ append-assoc a b rest in
-    ap wholeRecords g ∙ whole-append k a (b ++ rest) l ∙ rw f
+    let n : length (p ++ rest) / recordSize ≡ k + length (drop (k * recordSize) p ++ rest) / recordSize = simp (length-append, length-drop) (omega arith) in
+    rw (n, records-split k (length (drop (k * recordSize) p ++ rest) / recordSize) (p ++ rest), records-first k p rest h, drop-append-le (k * recordSize) p rest h)
 
 -- one record more, as the code takes it
 pub next-record : (i : ℕ) (log : List ℕ) → recordsIn i log ++ (part (i * recordSize) (i * recordSize + recordSize - i * recordSize) log ∷ []) ≡ recordsIn (i + 1) log

@@ -17,7 +17,7 @@ use Rattle.codec.specs.WellFormed.{Each}
 use Rattle.codec.specs.declared.records.Record.{Record}
 use Rattle.codec.proofs.Outcomes.{by-bool}
 use Rattle.bench_log.specs.Text.{ascii}
-use Rattle.bench_log.specs.Fields.{Contents, amount, string, FieldOf, prefix, blockFields, messageIdName, presence, fieldsIf, columnFields, messageFields, headFields, fieldsFrom, directionName, refusalName}
+use Rattle.bench_log.specs.Fields.{Contents, amount, string, LogField, prefix, blockFields, messageIdName, presence, fieldsIf, columnFields, messageFields, headFields, fieldsFrom, directionName, refusalName}
 use Rattle.bench_log.specs.Comparison.{same, alike, Difference, contentsIn, difference, differing, upTo}
 use Rattle.bench_log.specs.Inner.Pairs.{directionDifference, headDifferences}
 use Rattle.bench_log.specs.Inner.Differences.{blockDifferences, sectionDifferences, columnDifferences, presenceDifference, messageDifferences}
@@ -91,23 +91,23 @@ module _ (a b : Record) where
 
 -- ---- a refused record meets nothing but the head of the other
 
-alone : (fs gs : List FieldOf) → Each (λ f. contentsIn gs (f .name) ≡ none) fs → differing fs gs ≡ []
+alone : (fs gs : List LogField) → Each (λ f. contentsIn gs (f .name) ≡ none) fs → differing fs gs ≡ []
 unfolding differing
 alone [] gs h = refl
 alone (f ∷ fs) gs h = rw (h .0, alone fs gs (h .1))
 
-module _ (P : FieldOf → Type 0) where
-  each-append : (fs gs : List FieldOf) → Each P fs → Each P gs → Each P (fs ++ gs)
+module _ (P : LogField → Type 0) where
+  each-append : (fs gs : List LogField) → Each P fs → Each P gs → Each P (fs ++ gs)
   each-append [] gs h k = k
   each-append (f ∷ fs) gs h k = (h .0, each-append fs gs (h .1) k)
 
-  each-flat : (f : Technology → List FieldOf) → ((t : Technology) → Each P (f t)) → (ts : List Technology) → Each P (flatten (map f ts))
+  each-flat : (f : Technology → List LogField) → ((t : Technology) → Each P (f t)) → (ts : List Technology) → Each P (flatten (map f ts))
   unfolding flatten
   each-flat f h [] = tt
   each-flat f h (t ∷ ts) = each-append (f t) (flatten (map f ts)) (h t) (each-flat f h ts)
 
 module _ (direction refusal : ℕ) where
-  abbrev Apart : FieldOf → Type 0
+  abbrev Apart : LogField → Type 0
   Apart f = contentsIn (headFields direction refusal) (f .name) ≡ none
 
   apart-block : (t : Technology) (L : Layout) (v : Values L) → Each Apart (blockFields (prefix t) L v)
@@ -142,11 +142,11 @@ module _ (dl dr : ℕ) where
   kept-head n m = kept-both (directionDifference dl dr) (difference refusalName (amount n) (amount m)) kept-direction (kept-one refusalName (amount n) (amount m) refl)
 
   -- the left one is refused, or the right one
-  head-left : (n m : ℕ) (fs : List FieldOf) → differing (headFields dl n) (headFields dr m ++ fs) ≡ headDifferences dl dr n m
+  head-left : (n m : ℕ) (fs : List LogField) → differing (headFields dl n) (headFields dr m ++ fs) ≡ headDifferences dl dr n m
   unfolding differing contentsIn
   head-left n m fs = rw (append-nil (difference refusalName (amount n) (amount m)))
 
-  head-right : (n m : ℕ) (fs : List FieldOf) → Each (Apart dr m) fs → differing (headFields dl n ++ fs) (headFields dr m) ≡ headDifferences dl dr n m
+  head-right : (n m : ℕ) (fs : List LogField) → Each (Apart dr m) fs → differing (headFields dl n ++ fs) (headFields dr m) ≡ headDifferences dl dr n m
   unfolding differing contentsIn
   head-right n m fs h = rw (alone fs (headFields dr m) h, append-nil (difference refusalName (amount n) (amount m)))
 

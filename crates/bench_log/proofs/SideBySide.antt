@@ -1,33 +1,21 @@
 -- What any run of calls lays out, piece by piece, is the comparison of the two whole logs.
-use Prim.Native.Nat.{ℕ, _+_, _-_, _*_, _/_, _%_, _^_, _≤_, _<_, min}
+use Prim.Native.Nat.{ℕ, _+_, _-_, _*_, _/_, _%_, _^_, _≤_, _<_}
 use native.Mathlib.Omega.{arith}
-use native.Mathlib.Nat.{min-le-left, min-le-right}
+use native.Mathlib.Nat.{min-le-left}
 use mathlib.Core.Path.{_≡_, refl, sym, ap, _∙_}
-use mathlib.Core.List.{List, [], _∷_, _++_, map, append-assoc}
+use mathlib.Core.List.{List, [], _∷_, _++_, append-assoc}
 use mathlib.Core.Bool.{Bool, true}
 use lib.Dec.{eqb, ltb}
-use lib.ListN.{length, take, drop, length-append, length-drop}
+use lib.ListN.{length, drop, length-append, length-drop}
 use Rattle.bench_log.specs.LogRecord.{recordSize, recordsIn, wholeRecords}
 use Rattle.bench_log.specs.Items.{howMany, countersAfter, textsAfter, tally}
-use Rattle.bench_log.specs.Comparison.{Position, only, positions, positionLines, kindOf, kinds, sumLine, comparison, noPositions, counted, nextLines, nextKinds, pairLimit, comparable, onlyLimit, tellable, Run, pairs, left, right, end}
-use Rattle.bench_log.specs.declared.comparison.Side.{Side}
+use Rattle.bench_log.specs.Comparison.{Position, positions, positionLines, kindOf, kinds, sumLine, comparison, noPositions, counted, nextLines, nextKinds, positionLimit, tellable, leftOf, Run, pieces, end}
 use Rattle.bench_log.specs.declared.kinds.Kinds.{Kinds}
 use Rattle.bench_log.proofs.Items.{all-counted, counters-append, counted-all, texts-append, all-numbered, told-text}
 use Rattle.bench_log.proofs.Records.{records-length}
 use Rattle.bench_log.proofs.Records.{left as records-left}
 use Rattle.bench_log.proofs.Whole.{line-laid}
 use Rattle.bench_log.proofs.Positions.{positions-append}
-
--- ---- positions in parts
-
--- records of one side, where the other has none
-left-append : (xs ls : List (List ℕ)) → positions (xs ++ ls) [] ≡ map (only Side.Left) xs ++ positions ls []
-left-append [] ls = refl
-left-append (x ∷ xs) ls = rw (left-append xs ls)
-
-right-append : (xs rs : List (List ℕ)) → positions [] (xs ++ rs) ≡ map (only Side.Right) xs ++ positions [] rs
-right-append [] rs = refl
-right-append (x ∷ xs) rs = rw (right-append xs rs)
 
 none-whole : (log : List ℕ) → length log < recordSize → wholeRecords log ≡ []
 none-whole log h = let n : length log / recordSize ≡ 0 = omega arith in rw n
@@ -49,29 +37,21 @@ laid-then k ps qs m n {said} {text} {after} s a t =
     (ap (λ (y : List ℕ). said ++ y) t ∙ sym (append-assoc said _ _))
 
 after : {k : Kinds} {l r text : List ℕ} → Run k l r text → Says k (positions (wholeRecords l) (wholeRecords r)) l r text
-after (pairs {k} {text} {d} {e} p q l r c h run) =
-    let n = comparable p q d in
-    let a = min-le-left (min (length p / recordSize) (length q / recordSize)) (length d / pairLimit) in
-    let x : n * recordSize ≤ length p = omega (arith, a, min-le-left (length p / recordSize) (length q / recordSize)) in
-    let y : n * recordSize ≤ length q = omega (arith, a, min-le-right (length p / recordSize) (length q / recordSize)) in
+after (pieces {k} {text} {d} {e} p q l r c h g i run) =
+    let m = tellable p d in
+    let n = tellable q d in
+    let x : m * recordSize ≤ length p = omega (arith, min-le-left (length p / recordSize) (length d / positionLimit)) in
+    let y : n * recordSize ≤ length q = omega (arith, min-le-left (length q / recordSize) (length d / positionLimit)) in
+    let u = records-length m p in
+    let v = records-length n q in
     rw (
-      records-left n p l x,
+      records-left m p l x,
       records-left n q r y,
-      positions-append (recordsIn n p) (recordsIn n q) (wholeRecords (drop (n * recordSize) p ++ l)) (wholeRecords (drop (n * recordSize) q ++ r)) (records-length n p ∙ sym (records-length n q)),
-      same-rest n p l x,
+      positions-append (recordsIn m p) (recordsIn n q) (wholeRecords (leftOf p l d)) (wholeRecords (leftOf q r d)) (λ z. none-whole (leftOf p l d) (g (omega (arith, u, v)))) (λ z. none-whole (leftOf q r d) (i (omega (arith, u, v)))),
+      same-rest m p l x,
       same-rest n q r y,
     )
-    (laid-then k (positions (recordsIn n p) (recordsIn n q)) _ _ _ (told-text nextLines nextKinds h) (h .counts) (after run))
-after (left {k} {text} {d} {e} p l r c z h run) =
-    let n = tellable p d in
-    let x : n * recordSize ≤ length p = omega (arith, min-le-left (length p / recordSize) (length d / onlyLimit)) in
-    rw (none-whole r z, records-left n p l x, left-append (recordsIn n p) (wholeRecords (drop (n * recordSize) p ++ l)), same-rest n p l x)
-    (laid-then k (map (only Side.Left) (recordsIn n p)) _ _ _ (told-text nextLines nextKinds h) (h .counts) (rw (none-whole r z) at (after run)))
-after (right {k} {text} {d} {e} q l r c z h run) =
-    let n = tellable q d in
-    let x : n * recordSize ≤ length q = omega (arith, min-le-left (length q / recordSize) (length d / onlyLimit)) in
-    rw (none-whole l z, records-left n q r x, right-append (recordsIn n q) (wholeRecords (drop (n * recordSize) q ++ r)), same-rest n q r x)
-    (laid-then k (map (only Side.Right) (recordsIn n q)) _ _ _ (told-text nextLines nextKinds h) (h .counts) (rw (none-whole l z) at (after run)))
+    (laid-then k (positions (recordsIn m p) (recordsIn n q)) _ _ _ (told-text nextLines nextKinds h) (h .counts) (after run))
 after (end {k} {l} {r} x y o z) =
     let m : length l % recordSize ≡ length l = omega arith in
     let n : length r % recordSize ≡ length r = omega arith in

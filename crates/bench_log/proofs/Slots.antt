@@ -7,7 +7,7 @@ use mathlib.Core.Option.{Option, none, some}
 use mathlib.Core.Bool.{Bool, true, false, _&&_, not}
 use borrow.Author.Tests.{not-true}
 use Rattle.codec.proofs.Outcomes.{and-true}
-use Rattle.bench_log.specs.Fields.{Contents, FieldOf}
+use Rattle.bench_log.specs.Fields.{Contents, LogField}
 use Rattle.bench_log.specs.Comparison.{same, Difference, contentsIn, difference, against, differing}
 use Rattle.bench_log.proofs.Equals.{same-self}
 
@@ -16,15 +16,15 @@ pub record Slot : Type 0 where
   pub left : Option Contents
   pub right : Option Contents
 
-abbrev pub held : List ℕ → Option Contents → List FieldOf
+abbrev pub held : List ℕ → Option Contents → List LogField
 held x none = []
 held x (some c) = record { name = x; contents = c } ∷ []
 
-abbrev pub lefts : List Slot → List FieldOf
+abbrev pub lefts : List Slot → List LogField
 lefts [] = []
 lefts (s ∷ ss) = held (s .name) (s .left) ++ lefts ss
 
-abbrev pub rights : List Slot → List FieldOf
+abbrev pub rights : List Slot → List LogField
 rights [] = []
 rights (s ∷ ss) = held (s .name) (s .right) ++ rights ss
 
@@ -46,12 +46,12 @@ abbrev pub distinct : List Slot → Bool
 distinct [] = true
 distinct (s ∷ ss) = unheard (s .name) ss && distinct ss
 
-held-other : (y : List ℕ) (o : Option Contents) (fs : List FieldOf) (x : List ℕ) → same y x ≡ false → contentsIn (held y o ++ fs) x ≡ contentsIn fs x
+held-other : (y : List ℕ) (o : Option Contents) (fs : List LogField) (x : List ℕ) → same y x ≡ false → contentsIn (held y o ++ fs) x ≡ contentsIn fs x
 unfolding contentsIn
 held-other y none fs x e = refl
 held-other y (some c) fs x e = rw e
 
-held-here : (x : List ℕ) (o : Option Contents) (fs : List FieldOf) → contentsIn fs x ≡ none → contentsIn (held x o ++ fs) x ≡ o
+held-here : (x : List ℕ) (o : Option Contents) (fs : List LogField) → contentsIn fs x ≡ none → contentsIn (held x o ++ fs) x ≡ o
 unfolding contentsIn
 held-here x none fs e = e
 held-here x (some c) fs e = rw (same-self x)
@@ -65,14 +65,14 @@ module _ (x : List ℕ) where
       let b = and-true (not (same x (s .name))) _ (a .1) in
       held-other (s .name) (s .right) (rights ss) x (not-true _ (a .0)) ∙ none-right ss (b .1)
 
-  one-left : (y : List ℕ) (l o : Option Contents) (fs gs : List FieldOf) → same x y ≡ false → differing fs (held x o ++ gs) ≡ differing fs gs
+  one-left : (y : List ℕ) (l o : Option Contents) (fs gs : List LogField) → same x y ≡ false → differing fs (held x o ++ gs) ≡ differing fs gs
       → differing (held y l ++ fs) (held x o ++ gs) ≡ differing (held y l ++ fs) gs
   unfolding differing
   one-left y none o fs gs e h = h
   one-left y (some c) o fs gs e h = rw (held-other x o gs y e, h)
 
   -- a field of that name on the right meets none of these
-  passed-over : (o : Option Contents) (ss : List Slot) (gs : List FieldOf) → unheard x ss ≡ true → differing (lefts ss) (held x o ++ gs) ≡ differing (lefts ss) gs
+  passed-over : (o : Option Contents) (ss : List Slot) (gs : List LogField) → unheard x ss ≡ true → differing (lefts ss) (held x o ++ gs) ≡ differing (lefts ss) gs
   unfolding differing
   passed-over o [] gs e = refl
   passed-over o (s ∷ ss) gs e =
@@ -80,7 +80,7 @@ module _ (x : List ℕ) where
       let b = and-true (not (same x (s .name))) _ (a .1) in
       one-left (s .name) (s .left) o (lefts ss) gs (not-true _ (b .0)) (passed-over o ss gs (b .1))
 
-  one-slot : (l r : Option Contents) (fs gs : List FieldOf) (ds : List Difference) → contentsIn gs x ≡ none → differing fs (held x r ++ gs) ≡ ds
+  one-slot : (l r : Option Contents) (fs gs : List LogField) (ds : List Difference) → contentsIn gs x ≡ none → differing fs (held x r ++ gs) ≡ ds
       → differing (held x l ++ fs) (held x r ++ gs) ≡ meet x l r ++ ds
   unfolding differing
   one-slot none r fs gs ds n h = h

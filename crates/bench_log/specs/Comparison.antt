@@ -1,5 +1,6 @@
 -- The comparison of two logs by position: what is said of a pair of records, the lines, and the text for two whole logs.
 use Prim.Native.Nat.{ℕ, _*_, _/_, _%_, _<_, min}
+use Prim.Native.String.{String}
 use mathlib.Core.Path.{_≡_}
 use mathlib.Core.Logic.{_⊎_}
 use mathlib.Core.List.{List, [], _∷_, _++_, map, flatten, List·Memᴰ}
@@ -17,8 +18,7 @@ use Rattle.bench_log.specs.LogRecord.{recordSize, recordsIn, wholeRecord
 use Rattle.bench_log.specs.Items.{textsFrom, howMany, tally, Tells}
 use Rattle.bench_log.specs.Text.{ascii, decimal, hexadecimal}
 use Rattle.bench_log.specs.Listing.{field, entryText}
-use Rattle.bench_log.specs.Fields.{Contents, amount, string, FieldOf, messageIdName, fieldsOf, directionName, refusalName}
-use Rattle.bench_log.specs.declared.comparison.Side.{Side}
+use Rattle.bench_log.specs.Fields.{Contents, amount, string, LogField, messageIdName, fieldsOf, directionName, refusalName}
 use Rattle.bench_log.specs.declared.kinds.Kinds.{Kinds}
 use Rattle.bench_log.specs.declared.comparison.Compared.{Compared}
 
@@ -42,18 +42,18 @@ alike (amount x) (string y) = false
 alike (string x) (amount y) = false
 
 -- what a list of fields holds under a name
-unfoldable pub contentsIn : List FieldOf → List ℕ → Option Contents
+unfoldable pub contentsIn : List LogField → List ℕ → Option Contents
 contentsIn [] x = none
 contentsIn (f ∷ fs) x = cond (same (f .name) x) (some (f .contents)) (contentsIn fs x)
 
 unfoldable pub difference : List ℕ → Contents → Contents → List Difference
 difference name x y = cond (alike x y) [] (record { name = name; left = x; right = y } ∷ [])
 
-abbrev pub against : FieldOf → Option Contents → List Difference
+abbrev pub against : LogField → Option Contents → List Difference
 against f none = []
 against f (some y) = difference (f .name) (f .contents) y
 
-unfoldable pub differing : List FieldOf → List FieldOf → List Difference
+unfoldable pub differing : List LogField → List LogField → List Difference
 differing [] gs = []
 differing (f ∷ fs) gs = against f (contentsIn gs (f .name)) ++ differing fs gs
 
@@ -75,7 +75,7 @@ pub record Differs (l r : List ℕ) (d : Difference) : Type 0 where
   pub inLeft : contentsIn (fieldsOf l) (d .name) ≡ some (d .left)
   pub inRight : contentsIn (fieldsOf r) (d .name) ≡ some (d .right)
   pub unequal : d .left ≡ d .right → ⊥
-  pub inTime : List·Memᴰ (d .name) firstNames ⊎ (contentsIn (fieldsOf l) messageIdName ≡ contentsIn (fieldsOf r) messageIdName)
+  pub reached : List·Memᴰ (d .name) firstNames ⊎ (contentsIn (fieldsOf l) messageIdName ≡ contentsIn (fieldsOf r) messageIdName)
 
 -- ---- what is said of a pair
 
@@ -112,42 +112,36 @@ pairLines n l r =
     (cond (sameReading l r) (decimal n ++ ascii " same reading\n")
     (differenceLines n (shown l r)))
 
-abbrev pub sideText : Side → List ℕ
-sideText Side.Left = ascii " only left:"
-sideText Side.Right = ascii " only right:"
+-- of a record that only one log has: after the number and the words comes what the listing says after the number
+abbrev pub onlyLine : ℕ → String → List ℕ → List ℕ
+onlyLine n words r = decimal n ++ (ascii words ++ entryText (entryOf r))
 
--- after the number and the side comes what the listing says after the number
-abbrev pub onlyLine : ℕ → Side → List ℕ → List ℕ
-onlyLine n side r = decimal n ++ (sideText side ++ entryText (entryOf r))
-
--- ---- positions: a pair of records, or a record that only one side has
+-- ---- positions: a pair of records, or a record that only one log has
 
 pub data Position : Type 0 where
   both : (left right : List ℕ) → Position
-  only : Side → List ℕ → Position
+  onlyLeft onlyRight : List ℕ → Position
 
 abbrev pub positions : List (List ℕ) → List (List ℕ) → List Position
 positions [] [] = []
-positions [] (r ∷ rs) = only Side.Right r ∷ positions [] rs
-positions (l ∷ ls) [] = only Side.Left l ∷ positions ls []
+positions [] (r ∷ rs) = onlyRight r ∷ positions [] rs
+positions (l ∷ ls) [] = onlyLeft l ∷ positions ls []
 positions (l ∷ ls) (r ∷ rs) = both l r ∷ positions ls rs
 
 abbrev pub positionLines : ℕ → Position → List ℕ
 positionLines n (both l r) = pairLines n l r
-positionLines n (only side r) = onlyLine n side r
+positionLines n (onlyLeft r) = onlyLine n " only left:" r
+positionLines n (onlyRight r) = onlyLine n " only right:" r
 
 -- ---- how many positions are of each kind: 0 same octets, 1 same reading, 2 different, 3 only left, 4 only right
 
 abbrev pub pairKind : List ℕ → List ℕ → ℕ
 pairKind l r = cond (same l r) 0 (cond (sameReading l r) 1 2)
 
-abbrev pub sideKind : Side → ℕ
-sideKind Side.Left = 3
-sideKind Side.Right = 4
-
 abbrev pub kindOf : Position → ℕ
 kindOf (both l r) = pairKind l r
-kindOf (only side r) = sideKind side
+kindOf (onlyLeft r) = 3
+kindOf (onlyRight r) = 4
 
 abbrev pub kinds : List Position → Kinds
 kinds ps = record {
@@ -211,41 +205,29 @@ nextLines k p = positionLines (k .positions) p
 abbrev pub nextKinds : Kinds → Position → Kinds
 nextKinds k p = counted k (kindOf p)
 
--- no pair takes more octets
-abbrev pub pairLimit : ℕ
-pairLimit = 2560
+-- the lines of no position take more octets
+abbrev pub positionLimit : ℕ
+positionLimit = 2560
 
--- the pairs of two pieces that are compared: all, or as many as the buffer has room for
-abbrev pub comparable : (left right d : List ℕ) → ℕ
-comparable left right d = min (min (length left / recordSize) (length right / recordSize)) (length d / pairLimit)
+-- the records of a piece that are told: all, or as many as the buffer has room for
+abbrev pub tellable : (piece d : List ℕ) → ℕ
+tellable piece d = min (length piece / recordSize) (length d / positionLimit)
 
 -- what comparing two pieces does
 abbrev pub Compares : (left right : List ℕ) → Kinds → List ℕ → Compared → List ℕ → Type 0
 Compares left right k d r e =
-    let n = comparable left right d in
-    Tells nextLines nextKinds (positions (recordsIn n left) (recordsIn n right)) k d (r .kinds) (r .length) e
+    Tells nextLines nextKinds (positions (recordsIn (tellable left d) left) (recordsIn (tellable right d) right)) k d (r .kinds) (r .length) e
 
--- no line of a record that only one side has is longer
-abbrev pub onlyLimit : ℕ
-onlyLimit = 47
+-- what is left of a log that begins with a piece
+abbrev pub leftOf : (piece rest d : List ℕ) → List ℕ
+leftOf piece rest d = drop (tellable piece d * recordSize) piece ++ rest
 
-abbrev pub tellable : (piece d : List ℕ) → ℕ
-tellable piece d = min (length piece / recordSize) (length d / onlyLimit)
-
--- what is done with a piece that only one side has
-abbrev pub TellsOnly : Side → List ℕ → Kinds → List ℕ → Compared → List ℕ → Type 0
-TellsOnly side piece k d r e = Tells nextLines nextKinds (map (only side) (recordsIn (tellable piece d) piece)) k d (r .kinds) (r .length) e
-
--- Calls that compare what is left of two logs, from some counters on, and what they lay out, in order: `compare` on any pieces of both;
--- `only` on any piece of one, where less than a record is left of the other; or, where less than a record is left of both, `sum_line`
--- in a buffer that has room for it.
+-- Calls that compare what is left of two logs, from some counters on, and what they lay out, in order: `compare` on any pieces of both, if
+-- the log of which fewer records are told has no more; or, where less than a record is left of both, `sum_line` in a buffer that has
+-- room for it.
 pub data Run : Kinds → (left right text : List ℕ) → Type 0 where
-  pairs : {k : Kinds} {text d e : List ℕ} (p q l r : List ℕ) (c : Compared) → Compares p q k d c e
-      → Run (c .kinds) (drop (comparable p q d * recordSize) p ++ l) (drop (comparable p q d * recordSize) q ++ r) text
-      → Run k (p ++ l) (q ++ r) (take (c .length) e ++ text)
-  left : {k : Kinds} {text d e : List ℕ} (p l r : List ℕ) (c : Compared) → length r < recordSize → TellsOnly Side.Left p k d c e
-      → Run (c .kinds) (drop (tellable p d * recordSize) p ++ l) r text → Run k (p ++ l) r (take (c .length) e ++ text)
-  right : {k : Kinds} {text d e : List ℕ} (q l r : List ℕ) (c : Compared) → length l < recordSize → TellsOnly Side.Right q k d c e
-      → Run (c .kinds) l (drop (tellable q d * recordSize) q ++ r) text → Run k l (q ++ r) (take (c .length) e ++ text)
+  pieces : {k : Kinds} {text d e : List ℕ} (p q l r : List ℕ) (c : Compared) → Compares p q k d c e
+      → (tellable p d < tellable q d → length (leftOf p l d) < recordSize) → (tellable q d < tellable p d → length (leftOf q r d) < recordSize)
+      → Run (c .kinds) (leftOf p l d) (leftOf q r d) text → Run k (p ++ l) (q ++ r) (take (c .length) e ++ text)
   end : {k : Kinds} {l r d e : List ℕ} {a : Written} → length l < recordSize → length r < recordSize
       → LaysOut (fitting (sumLine k (length l) (length r)) (length d)) d a e → a .refusal ≡ 0 → Run k l r (take (a .length) e)

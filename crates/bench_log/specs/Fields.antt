@@ -19,7 +19,7 @@ pub data Contents : Type 0 where
   amount : ℕ → Contents
   string : List ℕ → Contents
 
-pub record FieldOf : Type 0 where
+pub record LogField : Type 0 where
   pub name : List ℕ
   pub contents : Contents
 
@@ -35,7 +35,7 @@ abbrev pub prefix : Technology → List ℕ
 prefix t = ascii (technologyName t) ++ ascii " "
 
 -- of what is counted, a key or a name, the contents are as many octets as its length says
-abbrev pub blockFields : List ℕ → (L : Layout) → Values L → List FieldOf
+abbrev pub blockFields : List ℕ → (L : Layout) → Values L → List LogField
 blockFields p [] v = []
 blockFields p (number x w t ∷ L) v = record { name = p ++ ascii x; contents = amount (v .0) } ∷ blockFields p L (v .1)
 blockFields p (octets x n t ∷ L) v = record { name = p ++ ascii x; contents = string (v .0) } ∷ blockFields p L (v .1)
@@ -49,17 +49,17 @@ blockFields p (counted y x t c ∷ L) v =
 abbrev pub messageIdName : List ℕ
 messageIdName = ascii "message ID"
 
-abbrev pub presence : ℕ → Technology → FieldOf
+abbrev pub presence : ℕ → Technology → LogField
 presence set t = record { name = prefix t ++ ascii "presence"; contents = amount (cond (names set t) 1 0) }
 
-abbrev pub fieldsIf : (k : Column) → Record → Technology → List FieldOf
+abbrev pub fieldsIf : (k : Column) → Record → Technology → List LogField
 fieldsIf k r t = cond (names (r .set) t) (blockFields (prefix t) (cell k t) (ofRecord r k t)) []
 
-abbrev pub columnFields : Option Column → Record → List FieldOf
+abbrev pub columnFields : Option Column → Record → List LogField
 columnFields none r = []
 columnFields (some k) r = flatten (map (fieldsIf k r) technologies)
 
-unfoldable pub messageFields : Record → List FieldOf
+unfoldable pub messageFields : Record → List LogField
 messageFields r =
     record { name = messageIdName; contents = amount (r .id) }
     ∷ (map (presence (r .set)) technologies
@@ -73,15 +73,15 @@ directionName = ascii "direction"
 abbrev pub refusalName : List ℕ
 refusalName = ascii "refusal number"
 
-abbrev pub headFields : (direction refusal : ℕ) → List FieldOf
+abbrev pub headFields : (direction refusal : ℕ) → List LogField
 headFields direction refusal =
     record { name = directionName; contents = amount direction }
     ∷ (record { name = refusalName; contents = amount refusal }
     ∷ [])
 
-abbrev pub fieldsFrom : ℕ → Checked Record → List FieldOf
+abbrev pub fieldsFrom : ℕ → Checked Record → List LogField
 fieldsFrom direction (refuse x) = headFields direction (numberOf x)
 fieldsFrom direction (accept r) = headFields direction 0 ++ messageFields r
 
-abbrev pub fieldsOf : List ℕ → List FieldOf
+abbrev pub fieldsOf : List ℕ → List LogField
 fieldsOf r = fieldsFrom (directionOf r) (readingOf r)

@@ -99,16 +99,10 @@ pub(crate) fn put_fields(
         let end = name + wide(layout[place + 1]);
         let x = a + octets_at(head, left, a);
         let y = b + octets_at(head, right, b);
-        next = put_field(
-            out,
-            next,
-            number,
-            technology,
-            head,
-            &layout[name..end],
-            &left[a..x],
-            &right[b..y],
-        );
+        let title = &layout[name..end];
+        let l = &left[a..x];
+        let r = &right[b..y];
+        next = put_field(out, next, number, technology, head, title, l, r);
         place = end;
         a = x;
         b = y;

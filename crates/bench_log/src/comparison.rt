@@ -1,4 +1,4 @@
-// The comparison of two logs by position, laid out in a lent buffer: pairs of records, records that only one side has, and the last line.
+// The comparison of two logs by position, laid out in a lent buffer: pairs of records, records that only one log has, and the last line.
 use crate::entry::Entry;
 use crate::entry::entry_of;
 use crate::kinds::Kinds;
@@ -17,26 +17,21 @@ use crate::text::put_text;
 use codec::Written;
 use codec::refusal::BUFFER_TOO_SHORT;
 ghost use mathlib.Core.Path.{_≡_};
-ghost use mathlib.Core.List.{_++_};
-ghost use Prim.Native.Nat.{_+_, _≤_};
+ghost use mathlib.Core.Bool.{cond};
+ghost use mathlib.Core.List.{_++_, map};
+ghost use Prim.Native.Nat.{_+_, _*_, _≤_};
 ghost use lib.ListN.{length};
 ghost use Rattle.codec.specs.Inner.Puts.{Put};
 ghost use Rattle.codec.specs.Writing.{fitting, LaysOut};
 ghost use Rattle.bench_log.specs.Text.{decimal};
 ghost use Rattle.bench_log.specs.Listing.{entryText};
-ghost use Rattle.bench_log.specs.Inner.Pairs.{kindText};
-ghost use Rattle.bench_log.specs.Comparison.{sideKind, onlyLimit, pairsText, restText, sumLine, Compares, TellsOnly};
+ghost use Rattle.bench_log.specs.LogRecord.{recordSize, recordsIn};
+ghost use Rattle.bench_log.specs.Comparison.{positions, pairsText, restText, sumLine, nextLines, nextKinds, positionLimit, Compares};
+ghost use Rattle.bench_log.specs.Inner.Items.{SoFar};
+ghost use Rattle.bench_log.specs.Inner.Pairs.{onlyOn, sideText};
 
-// No pair takes more octets: the lines of all fields of two Configurations, with the longest numbers, keys and names.
-pub const PAIR_LIMIT: usize = 2560;
-
-// No line of a record that only one side has is longer: 20 digits, ` only right:`, and what the listing says after the number.
-pub const ONLY_LIMIT: usize = 47;
-
-pub enum Side {
-    Left,
-    Right,
-}
+// The lines of no position take more octets: those of all fields of two Configurations, with the longest numbers, keys and names.
+pub const POSITION_LIMIT: usize = 2560;
 
 // The counters after some positions were told, and how many octets of the buffer are their lines.
 pub struct Compared {
@@ -44,19 +39,16 @@ pub struct Compared {
     pub length: usize,
 }
 
-// Compares the whole records of two pieces that come after the positions counted before, as many pairs as `out` has room for at the
-// longest each: their lines stand at its start, and every other octet is as it was.
-pub fn compare(left: &[u8], right: &[u8], before: Kinds, out: &mut [u8]) -> Compared
-    ensures { λ r. ⌜ Compares (now (left .entry)) (now (right .entry)) before (now (out .entry)) r (now (out .exit)) ⌝ }
+// The lines of pairs of records, so many from the start of two pieces, at the start of the buffer.
+fn tell_pairs(out: &mut [u8], before: Kinds, left: &[u8], right: &[u8], count: usize) -> Compared
+    requires { ⌜ (count * recordSize ≤ length (now left)) × (count * recordSize ≤ length (now right)) × (count * positionLimit ≤ length (now out)) ⌝ }
+    ensures { λ r. ⌜ SoFar nextLines nextKinds (positions (recordsIn count (now (left .entry))) (recordsIn count (now (right .entry)))) before (now (out .entry)) 0 (r .kinds) (now (out .exit)) (r .length)
+        × (r .length ≤ count * positionLimit) ⌝ }
 {
-    let pairs = least(
-        least(left.len() / RECORD_SIZE, right.len() / RECORD_SIZE),
-        out.len() / PAIR_LIMIT,
-    );
     let mut kinds = before;
     let mut length = 0;
     let mut i = 0;
-    while i < pairs {
+    while i < count {
         let at = i * RECORD_SIZE;
         let end = at + RECORD_SIZE;
         let said = put_pair(
@@ -73,53 +65,66 @@ pub fn compare(left: &[u8], right: &[u8], before: Kinds, out: &mut [u8]) -> Comp
     Compared { kinds, length }
 }
 
-fn side_kind(side: Side) -> u8
-    ensures { λ r. ⌜ r ≡ sideKind side ⌝ }
+fn only_kind(left: bool) -> u8
+    ensures { λ r. ⌜ r ≡ cond left 3 4 ⌝ }
 {
-    match side {
-        Side::Left => ONLY_LEFT,
-        Side::Right => ONLY_RIGHT,
-    }
+    if left { ONLY_LEFT } else { ONLY_RIGHT }
 }
 
-fn put_side(out: &mut [u8], at: usize, kind: u8) -> usize
+fn put_side(out: &mut [u8], at: usize, left: bool) -> usize
     requires { ⌜ at + 12 ≤ length (now out) ⌝ }
-    ensures { λ r. ⌜ Put (now (out .entry)) at (kindText kind) (now (out .exit)) r × (r ≤ at + 12) ⌝ }
+    ensures { λ r. ⌜ Put (now (out .entry)) at (sideText left) (now (out .exit)) r × (r ≤ at + 12) ⌝ }
 {
-    if kind == ONLY_LEFT {
+    if left {
         return put_text(out, at, b" only left:");
     }
     put_text(out, at, b" only right:")
 }
 
-// The line of a record that only one side has.
-fn put_only(out: &mut [u8], at: usize, number: u64, kind: u8, e: Entry) -> usize
-    requires { ⌜ at + onlyLimit ≤ length (now out) ⌝ }
-    ensures { λ r. ⌜ Put (now (out .entry)) at (decimal number ++ (kindText kind ++ entryText e)) (now (out .exit)) r × (r ≤ at + onlyLimit) ⌝ }
+// The line of a record that only one log has.
+fn put_only(out: &mut [u8], at: usize, number: u64, left: bool, e: Entry) -> usize
+    requires { ⌜ at + 47 ≤ length (now out) ⌝ }
+    ensures { λ r. ⌜ Put (now (out .entry)) at (decimal number ++ (sideText left ++ entryText e)) (now (out .exit)) r × (r ≤ at + 47) ⌝ }
 {
     let words = put_number(out, at, number);
-    let entry = put_side(out, words, kind);
+    let entry = put_side(out, words, left);
     put_entry(out, entry, e)
 }
 
-// Lists the whole records of a piece that only one side has, after the positions counted before, as many as `out` has room for at the
-// longest line each.
-pub fn only(side: Side, piece: &[u8], before: Kinds, out: &mut [u8]) -> Compared
-    ensures { λ r. ⌜ TellsOnly side (now (piece .entry)) before (now (out .entry)) r (now (out .exit)) ⌝ }
+// The lines of records that only one log has, so many from the start of a piece, after what was told before.
+fn tell_only(out: &mut [u8], told: Compared, left: bool, piece: &[u8], count: usize) -> Compared
+    requires { ⌜ (count * recordSize ≤ length (now piece)) × (told .length + count * positionLimit ≤ length (now out)) ⌝ }
+    ensures { λ r. ⌜ SoFar nextLines nextKinds (map (onlyOn left) (recordsIn count (now (piece .entry)))) (told .kinds) (now (out .entry)) (told .length) (r .kinds) (now (out .exit)) (r .length)
+        × (r .length ≤ told .length + count * positionLimit) ⌝ }
 {
-    let count = least(piece.len() / RECORD_SIZE, out.len() / ONLY_LIMIT);
-    let kind = side_kind(side);
-    let mut kinds = before;
-    let mut length = 0;
+    let kind = only_kind(left);
+    let mut kinds = told.kinds;
+    let mut length = told.length;
     let mut i = 0;
     while i < count {
         let at = i * RECORD_SIZE;
         let e = entry_of(&piece[at..at + RECORD_SIZE]);
-        length = put_only(out, length, kinds.positions, kind, e);
+        length = put_only(out, length, kinds.positions, left, e);
         kinds = counted(kinds, kind);
         i += 1;
     }
     Compared { kinds, length }
+}
+
+// Compares the whole records of two pieces that come after the positions counted before, as many of each as `out` has room for at the
+// longest lines: first the pairs, and then the records that only one piece has. Their lines stand at its start, and every other octet is
+// as it was.
+pub fn compare(left: &[u8], right: &[u8], before: Kinds, out: &mut [u8]) -> Compared
+    ensures { λ r. ⌜ Compares (now (left .entry)) (now (right .entry)) before (now (out .entry)) r (now (out .exit)) ⌝ }
+{
+    let room = out.len() / POSITION_LIMIT;
+    let a = least(left.len() / RECORD_SIZE, room);
+    let b = least(right.len() / RECORD_SIZE, room);
+    let pairs = least(a, b);
+    let from = pairs * RECORD_SIZE;
+    let paired = tell_pairs(out, before, left, right, pairs);
+    let told = tell_only(out, paired, true, &left[from..], a - pairs);
+    tell_only(out, told, false, &right[from..], b - pairs)
 }
 
 // What the last line says of the pairs.

@@ -1,4 +1,4 @@
-// Bench logs: what their records say, the totals, and the text of the listing.
+// Bench logs: their records taken apart, the listing with its totals, and the comparison of two logs.
 mod block;
 mod comparison;
 mod difference;
@@ -14,11 +14,8 @@ mod text;
 mod totals;
 
 pub use comparison::Compared;
-pub use comparison::ONLY_LIMIT;
-pub use comparison::PAIR_LIMIT;
-pub use comparison::Side;
+pub use comparison::POSITION_LIMIT;
 pub use comparison::compare;
-pub use comparison::only;
 pub use comparison::sum_line;
 pub use entry::Entry;
 pub use entry::entry_of;

@@ -75,34 +75,10 @@ fn put_sections(
     ensures { λ r. ⌜ Put (now (out .entry)) at (differenceLines number (flatten (map (sectionIn (columnBy configuration) s u (now (left .entry)) (now (a .entry)) (now (right .entry)) (now (b .entry))) technologies))) (now (out .exit)) r
         × (r ≤ at + (sectionLimit (columnBy configuration) uwb + (sectionLimit (columnBy configuration) cs + (sectionLimit (columnBy configuration) nan + sectionLimit (columnBy configuration) rssi)))) ⌝ }
 {
-    let cs = put_section(out, at, number, configuration, UWB, s, u, left, a, right, b);
-    let nan = put_section(out, cs, number, configuration, CS, s, u, left, a, right, b);
-    let rssi = put_section(
-        out,
-        nan,
-        number,
-        configuration,
-        NAN,
-        s,
-        u,
-        left,
-        a,
-        right,
-        b,
-    );
-    put_section(
-        out,
-        rssi,
-        number,
-        configuration,
-        RSSI,
-        s,
-        u,
-        left,
-        a,
-        right,
-        b,
-    )
+    let p = put_section(out, at, number, configuration, UWB, s, u, left, a, right, b);
+    let q = put_section(out, p, number, configuration, CS, s, u, left, a, right, b);
+    let r = put_section(out, q, number, configuration, NAN, s, u, left, a, right, b);
+    put_section(out, r, number, configuration, RSSI, s, u, left, a, right, b)
 }
 
 fn joined(low: u8, high: u8) -> u16

@@ -17,7 +17,7 @@ ghost use lib.ListN.{length};
 ghost use Rattle.codec.specs.Octets.{Octets};
 ghost use Rattle.codec.specs.Inner.Puts.{Put};
 ghost use Rattle.bench_log.specs.Text.{decimal};
-ghost use Rattle.bench_log.specs.Comparison.{shown, differenceLines, pairLines, pairKind, pairLimit};
+ghost use Rattle.bench_log.specs.Comparison.{shown, differenceLines, pairLines, pairKind, positionLimit};
 ghost use Rattle.bench_log.specs.Inner.Pairs.{Sees, headDifferences};
 
 // What is seen of a record: its direction and its refusal, and if it is accepted where its message ends and its blocks begin.
@@ -129,9 +129,9 @@ fn put_words(out: &mut [u8], at: usize, number: u64, words: &[u8]) -> usize
 
 // The lines of a pair.
 pub(crate) fn put_pair(out: &mut [u8], at: usize, number: u64, left: &[u8], right: &[u8]) -> Said
-    requires { ⌜ at + pairLimit ≤ length (now out) ⌝ }
+    requires { ⌜ at + positionLimit ≤ length (now out) ⌝ }
     ensures { λ r. ⌜ Put (now (out .entry)) at (pairLines number (now (left .entry)) (now (right .entry))) (now (out .exit)) (r .end)
-        × (r .end ≤ at + pairLimit) × (r .kind ≡ pairKind (now (left .entry)) (now (right .entry))) ⌝ }
+        × (r .end ≤ at + positionLimit) × (r .kind ≡ pairKind (now (left .entry)) (now (right .entry))) ⌝ }
 {
     if same(left, right) {
         let end = put_words(out, at, number, b" same octets\n");

@@ -25,6 +25,10 @@ passed {r} e n = sym e ∙ not-false r n
 pub part-length : (at n : ℕ) (s : List ℕ) → at + n ≤ length s → length (part at n s) ≡ n
 part-length at n s h = simp (length-take, length-drop) (omega arith)
 
+-- a slice that begins at a place
+pub suffix : (at : ℕ) (m : List ℕ) → take (length m - at) (drop at m) ≡ drop at m
+suffix at m = take-all (length m - at) (drop at m) (simp length-drop (omega arith))
+
 octets-drop : (n : ℕ) (l : List ℕ) → Octets l → Octets (drop n l)
 octets-drop n l o i = rw (getD-drop n l i 0) (o (n + i))
 

@@ -6,13 +6,13 @@ use mathlib.Core.Bool.{Bool, true, false, _&&_}
 use mathlib.Core.List.{List, [], _∷_, _++_}
 use lib.Dec.{leb, eqb}
 use lib.ListN.{length, getD, take, drop, length-append, length-take, length-drop, List·getD-append}
-use lib.Seq.{take-all, take-append-le, drop-append-le}
+use lib.Seq.{take-append-le, drop-append-le}
 use borrow.Author.Tests.{le-leb, leb-true, eqb-true}
 use Rattle.codec.specs.Refusal.{accept, notAllowed, blockTooSmall}
 use Rattle.codec.specs.Octets.{part, ofLE}
 use Rattle.codec.specs.Layout.{Test, any, oneOf, between, Layout, number, octets, counted, member, inside, test, spelled, Values, zeroes, allowed, Typed, write, value, need, least, fault}
 use Rattle.codec.specs.Inner.Places.{roomy, Roomy, fieldsAt}
-use Rattle.codec.proofs.Laws.{long-LE}
+use Rattle.codec.proofs.Laws.{suffix, long-LE}
 use Rattle.codec.proofs.Outcomes.{by-bool, and-true, or-true, demanded}
 
 -- ---- a layout whose counted octets fit their arrays
@@ -99,15 +99,11 @@ value-before (counted y x t c ∷ L) at a r h =
 
 -- what is read at a place
 module _ (L : Layout) (m : List ℕ) (at : ℕ) where
-  -- a slice that begins there
-  rest : take (length m - at) (drop at m) ≡ drop at m
-  rest = take-all (length m - at) (drop at m) (simp length-drop (omega arith))
-
   pub slice-roomy : Roomy L 2 (drop at m) → Roomy L 2 (take (length m - at) (drop at m))
-  slice-roomy h = rw rest h
+  slice-roomy h = rw (suffix at m) h
 
   pub slice-fields : Roomy L 2 (drop at m) → value L 2 (take (length m - at) (drop at m)) ≡ fieldsAt L m at
-  slice-fields h = rw (rest, roomy-is L 2 (drop at m) h)
+  slice-fields h = rw (suffix at m, roomy-is L 2 (drop at m) h)
 
   pub fields-there : Roomy L 2 (drop at m) → fieldsAt L m at ≡ value L 2 (drop at m)
   fields-there h = rw (roomy-is L 2 (drop at m) h)

@@ -1,9 +1,8 @@
 // Compares two bench logs, left.log and right.log in the folder it is run in: lines for each position, and the last line. A file that is
 // missing counts as empty.
 use bench_log::Kinds;
-use bench_log::PAIR_LIMIT;
+use bench_log::POSITION_LIMIT;
 use bench_log::RECORD_SIZE;
-use bench_log::Side;
 use log_io::MISSING;
 ghost use Prim.Native.Nat.{_≤_};
 ghost use lib.ListN.{length};
@@ -13,20 +12,14 @@ const RECORDS: usize = 252;
 
 const PIECE_SIZE: usize = RECORDS * RECORD_SIZE;
 
-// Room for the lines of as many pairs, and more than any other text takes.
-const TEXT_SIZE: usize = RECORDS * PAIR_LIMIT;
+// Room for the lines of as many positions, and more than the last line takes.
+const TEXT_SIZE: usize = RECORDS * POSITION_LIMIT;
 
 // What was read of both: how many octets, and whether a read failed.
 struct Pieces {
     left: usize,
     right: usize,
     failed: bool,
-}
-
-// The counters so far, and whether all text was written.
-struct Told {
-    kinds: Kinds,
-    written: bool,
 }
 
 // The counters so far, the logs, which are missing when they have ended, the octets of their partial last records, and whether all went
@@ -56,34 +49,6 @@ fn write_text(text: &[u8], n: usize) -> bool {
     log_io::write_text(text, n, b"compare_logs: standard output cannot be written")
 }
 
-// Tells the pairs of two pieces.
-fn tell_pairs(before: Kinds, left: &[u8], right: &[u8], text: &mut [u8]) -> Told {
-    let compared = bench_log::compare(left, right, before, text);
-    let kinds = compared.kinds;
-    let written = write_text(text, compared.length);
-    Told { kinds, written }
-}
-
-// Tells the records of a piece that only one side has, after so many that both have.
-fn tell_only(before: Told, side: Side, piece: &[u8], pairs: usize, text: &mut [u8]) -> Told {
-    if piece.len() / RECORD_SIZE <= pairs {
-        return before;
-    }
-    let counted = before.kinds;
-    let told = bench_log::only(side, &piece[pairs * RECORD_SIZE..], counted, text);
-    let kinds = told.kinds;
-    let written = before.written & write_text(text, told.length);
-    Told { kinds, written }
-}
-
-// Tells all positions of two pieces.
-fn tell(before: Kinds, left: &[u8], right: &[u8], text: &mut [u8]) -> Told {
-    let pairs = log_io::least(left.len() / RECORD_SIZE, right.len() / RECORD_SIZE);
-    let told = tell_pairs(before, left, right, text);
-    let told = tell_only(told, Side::Left, left, pairs, text);
-    tell_only(told, Side::Right, right, pairs, text)
-}
-
 // The log after a piece of it was read, which has ended if the piece is not full.
 fn after(log: i32, length: usize) -> i32 {
     if length < PIECE_SIZE { MISSING } else { log }
@@ -97,27 +62,31 @@ fn tail(before: u64, length: usize) -> u64 {
     (length % RECORD_SIZE) as u64
 }
 
-// Both logs after pieces of them were read.
-fn told_turn(before: Turn, failed: bool, left: &[u8], right: &[u8], text: &mut [u8]) -> Turn {
-    let counted = before.kinds;
-    let told = tell(counted, left, right, text);
-    let kinds = told.kinds;
+// Tells two pieces. They are as long as one another, unless a log has ended.
+fn tell(before: Turn, left: &[u8], right: &[u8], text: &mut [u8]) -> Turn {
+    let compared = bench_log::compare(left, right, before.kinds, text);
+    let kinds = compared.kinds;
     Turn {
         kinds,
         left: after(before.left, left.len()),
         right: after(before.right, right.len()),
         left_tail: tail(before.left_tail, left.len()),
         right_tail: tail(before.right_tail, right.len()),
-        sound: told.written & !failed,
+        sound: write_text(text, compared.length),
     }
 }
 
-// One piece of both logs.
+// One piece of both logs. Where a read failed, nothing more is told.
 fn next_turn(before: Turn, l: &mut [u8], r: &mut [u8], text: &mut [u8]) -> Turn {
     let read = read_pieces(before.left, before.right, l, r);
+    if read.failed {
+        let mut failed = before;
+        failed.sound = false;
+        return failed;
+    }
     let x = read.left;
     let y = read.right;
-    told_turn(before, read.failed, &l[..x], &r[..y], text)
+    tell(before, &l[..x], &r[..y], text)
 }
 
 fn goes_on(state: Turn) -> bool {

@@ -2,6 +2,8 @@
 use Prim.Native.Nat.{ℕ, _≤_}
 use mathlib.Core.Path.{_≡_}
 use mathlib.Core.Bool.{Bool, true, false}
+use mathlib.Core.List.{List}
+use lib.ListN.{length}
 use lib.IntN.{ℤ, negsuc}
 use lib.Signed.{nonNeg}
 
@@ -14,7 +16,8 @@ pub record Opens (file : ℤ) (failed : Bool) : Type 0 where
   pub there : nonNeg file ≡ true → failed ≡ false
   pub none : nonNeg file ≡ false → file ≡ missing
 
--- what reading into a piece of so many octets gives: not more than these, and of a log that is missing none, without a failure
-pub record Reads (file : ℤ) (size length : ℕ) (failed : Bool) : Type 0 where
-  pub within : length ≤ size
-  pub none : file ≡ missing → (length ≡ 0) × (failed ≡ false)
+-- what reading into a piece gives, with the piece before and after: not more octets than the piece has, and of a log that is missing none,
+-- without a failure and with the piece as it was
+pub record Reads (file : ℤ) (before after : List ℕ) (n : ℕ) (failed : Bool) : Type 0 where
+  pub within : n ≤ length after
+  pub none : file ≡ missing → (n ≡ 0) × (failed ≡ false) × (after ≡ before)

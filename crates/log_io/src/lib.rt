@@ -4,8 +4,7 @@ use libc::ENOENT;
 use libc::STDOUT_FILENO;
 ghost use mathlib.Core.Path.{_≡_};
 ghost use mathlib.Core.Bool.{true};
-ghost use Prim.Native.Nat.{_≤_};
-ghost use lib.ListN.{length};
+ghost use Prim.Native.Nat.{min};
 ghost use Rattle.log_io.specs.Logs.{Opens, Reads};
 
 // In place of a descriptor: there is no such file. It is read as an empty one.
@@ -48,7 +47,7 @@ pub fn open_log(path: &[u8], failure: &[u8]) -> Opened
 }
 
 fn read_failed(length: usize, failure: &[u8]) -> Got
-    ensures { λ r. ⌜ r .length ≡ length ⌝ }
+    ensures { λ r. ⌜ (r .length ≡ length) × (r .failed ≡ true) ⌝ }
 {
     os::fail(failure);
     Got {
@@ -59,7 +58,7 @@ fn read_failed(length: usize, failure: &[u8]) -> Got
 
 // Reads until the piece is full or the log ends.
 pub fn read_piece(file: i32, piece: &mut [u8], failure: &[u8]) -> Got
-    ensures { λ r. ⌜ Reads file (length (now (piece .exit))) (r .length) (r .failed) ⌝ }
+    ensures { λ r. ⌜ Reads file (now (piece .entry)) (now (piece .exit)) (r .length) (r .failed) ⌝ }
 {
     let mut at = 0;
     if file == MISSING {
@@ -88,8 +87,8 @@ pub fn read_piece(file: i32, piece: &mut [u8], failure: &[u8]) -> Got
     }
 }
 
-pub fn least(a: usize, b: usize) -> usize
-    ensures { λ r. ⌜ (r ≤ a) × (r ≤ b) ⌝ }
+fn least(a: usize, b: usize) -> usize
+    ensures { λ r. ⌜ r ≡ min a b ⌝ }
 {
     if a < b { a } else { b }
 }

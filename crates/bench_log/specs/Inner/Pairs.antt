@@ -2,8 +2,7 @@
 use Prim.Native.Nat.{ℕ, _-_, _≤_}
 use mathlib.Core.Path.{_≡_}
 use mathlib.Core.List.{List, _++_}
-use mathlib.Core.Bool.{cond}
-use lib.Dec.{eqb}
+use mathlib.Core.Bool.{Bool, true, false}
 use lib.ListN.{length}
 use Rattle.codec.specs.Octets.{part}
 use Rattle.codec.specs.Records.{answer}
@@ -12,7 +11,7 @@ use Rattle.codec.specs.Inner.Places.{Located}
 use Rattle.bench_log.specs.LogRecord.{readingOf, directionOf}
 use Rattle.bench_log.specs.Text.{ascii}
 use Rattle.bench_log.specs.Fields.{amount, directionName, refusalName}
-use Rattle.bench_log.specs.Comparison.{Difference, difference}
+use Rattle.bench_log.specs.Comparison.{Difference, difference, Position, onlyLeft, onlyRight}
 use Rattle.bench_log.specs.declared.pair.Seen.{Seen}
 
 abbrev pub directionDifference : (left right : ℕ) → List Difference
@@ -33,6 +32,11 @@ pub record Sees (r : List ℕ) (s : Seen) : Type 0 where
   pub refusal : s .refusal ≡ answer (readingOf r) .refusal
   pub holds : s .refusal ≡ 0 → Holds r (s .end) (s .places)
 
--- the words of a record that only one side has, by its kind
-unfoldable pub kindText : ℕ → List ℕ
-kindText kind = cond (eqb kind 3) (ascii " only left:") (ascii " only right:")
+-- a record that only one log has, with the words after its number
+abbrev pub onlyOn : (left : Bool) → List ℕ → Position
+onlyOn true = onlyLeft
+onlyOn false = onlyRight
+
+abbrev pub sideText : (left : Bool) → List ℕ
+sideText true = ascii " only left:"
+sideText false = ascii " only right:"

@@ -15,7 +15,7 @@ abbrev μ-loop : tie.MeasureT-loop
 μ-loop file piece₀ failure at₀ piece at = length piece - at
 
 returns : tie.Need-returns Inv-loop μ-loop
-returns c = record { within = omega arith; none = λ e. (refl, refl) }
+returns c = record { within = omega arith; none = λ e. (refl, refl, refl) }
 
 loop-holds : tie.Need-loop-holds Inv-loop μ-loop
 loop-holds c = search needs

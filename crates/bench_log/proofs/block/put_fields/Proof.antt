@@ -1,6 +1,6 @@
-use borrow.Author.Needs.{needs}
 use Rattle.bench_log.proofs.Walking.{Walking, at-start, at-end, here, here-taken, step-taken}
 use native.Mathlib.Omega.{arith}
+use borrow.Author.Needs.{needs}
 use Rattle.bench_log.proofs.block.put_fields.Statement.{statement}
 use Rattle.bench_log.proofs.block.put_fields.Tie as tie
 
@@ -45,32 +45,32 @@ octets-at-requires-2 c κs = let f = here (omega arith) (c .before .before .befo
 add-y : tie.Need-add-y Inv-loop μ-loop
 add-y c = let f = here (omega arith) (c .before .before .before .before .before .before .loop .inv) in omega (arith, f .right, c .octets-at2 .ensures)
 
-sub-put-field : tie.Need-sub-put-field Inv-loop μ-loop
-sub-put-field c = search needs
+sub-title : tie.Need-sub-title Inv-loop μ-loop
+sub-title c = search needs
 
-part-put-field-start : tie.Need-part-put-field-start Inv-loop μ-loop
-part-put-field-start c = search needs
+part-title-start : tie.Need-part-title-start Inv-loop μ-loop
+part-title-start c = search needs
 
-part-put-field-end : tie.Need-part-put-field-end Inv-loop μ-loop
-part-put-field-end c = let f = here (omega arith) (c .before .before .before .before .before .before .before .loop .inv) in omega (arith, f .whole, c .before .before .before .wide .ensures)
+part-title-end : tie.Need-part-title-end Inv-loop μ-loop
+part-title-end c = let f = here (omega arith) (c .before .before .before .before .before .before .loop .inv) in omega (arith, f .whole, c .before .before .wide .ensures)
 
-sub-put-field-2 : tie.Need-sub-put-field-2 Inv-loop μ-loop
-sub-put-field-2 c = search needs
+sub-l : tie.Need-sub-l Inv-loop μ-loop
+sub-l c = search needs
 
-part-put-field-start-2 : tie.Need-part-put-field-start-2 Inv-loop μ-loop
-part-put-field-start-2 c = search needs
+part-l-start : tie.Need-part-l-start Inv-loop μ-loop
+part-l-start c = search needs
 
-part-put-field-end-2 : tie.Need-part-put-field-end-2 Inv-loop μ-loop
-part-put-field-end-2 c = let f = here (omega arith) (c .before .before .before .before .before .before .before .before .loop .inv) in omega (arith, f .left, c .before .before .before .octets-at .ensures)
+part-l-end : tie.Need-part-l-end Inv-loop μ-loop
+part-l-end c = let f = here (omega arith) (c .before .before .before .before .before .before .before .loop .inv) in omega (arith, f .left, c .before .before .octets-at .ensures)
 
-sub-put-field-3 : tie.Need-sub-put-field-3 Inv-loop μ-loop
-sub-put-field-3 c = search needs
+sub-r : tie.Need-sub-r Inv-loop μ-loop
+sub-r c = search needs
 
-part-put-field-start-3 : tie.Need-part-put-field-start-3 Inv-loop μ-loop
-part-put-field-start-3 c = search needs
+part-r-start : tie.Need-part-r-start Inv-loop μ-loop
+part-r-start c = search needs
 
-part-put-field-end-3 : tie.Need-part-put-field-end-3 Inv-loop μ-loop
-part-put-field-end-3 c = let f = here (omega arith) (c .before .before .before .before .before .before .before .before .before .loop .inv) in omega (arith, f .right, c .before .before .before .octets-at2 .ensures)
+part-r-end : tie.Need-part-r-end Inv-loop μ-loop
+part-r-end c = let f = here (omega arith) (c .before .before .before .before .before .before .before .before .loop .inv) in omega (arith, f .right, c .before .before .octets-at2 .ensures)
 
 put-field-requires : tie.Need-put-field-requires Inv-loop μ-loop
 put-field-requires c κs = here-taken (omega arith) (c .before .before .before .before .before .before .before .before .before .before .loop .inv) (c .before .before .before .before .before .before .wide .ensures) (c .before .before .before .before .before .octets-at .ensures) (c .before .before .before .before .octets-at2 .ensures)
@@ -107,15 +107,15 @@ put-fields-spec =
     add-x
     octets-at-requires-2
     add-y
-    sub-put-field
-    part-put-field-start
-    part-put-field-end
-    sub-put-field-2
-    part-put-field-start-2
-    part-put-field-end-2
-    sub-put-field-3
-    part-put-field-start-3
-    part-put-field-end-3
+    sub-title
+    part-title-start
+    part-title-end
+    sub-l
+    part-l-start
+    part-l-end
+    sub-r
+    part-r-start
+    part-r-end
     put-field-requires
     sub-todo
     loop-less

@@ -1,99 +1,46 @@
-use Rattle.bench_log.specs.LogRecord.{recordsIn}
-use Rattle.bench_log.specs.Comparison.{positions, nextLines, nextKinds, pairLimit}
-use Rattle.bench_log.proofs.Items.{SoFar, none-told}
-use Rattle.bench_log.proofs.Positions.{one-compared, all-compared}
+use Rattle.bench_log.proofs.Positions.{more-there, more-room, all-compared}
+use Rattle.bench_log.specs.LogRecord.{recordSize}
+use Rattle.bench_log.specs.Comparison.{positionLimit}
 use native.Mathlib.Omega.{arith}
-use Prim.Native.Nat.{_-_, _*_, _≤_}
+use native.Mathlib.Nat.{min-le-right}
+use lib.ListN.{length}
+use Prim.Native.Nat.{_/_}
 use borrow.Author.Needs.{needs}
 use Rattle.bench_log.proofs.comparison.compare.Statement.{statement}
 use Rattle.bench_log.proofs.comparison.compare.Tie as tie
 
-abbrev Inv-loop : tie.InvT-loop
-Inv-loop left right out₀ pairs kinds₀ length₀ i₀ out kinds length i =
-    (i ≤ pairs) × (length ≤ i * pairLimit) × SoFar nextLines nextKinds (positions (recordsIn i left) (recordsIn i right)) kinds₀ out₀ kinds out length
-
-abbrev μ-loop : tie.MeasureT-loop
-μ-loop left right out₀ pairs kinds₀ length₀ i₀ out kinds length i = pairs - i
-
-least-requires : tie.Need-least-requires Inv-loop μ-loop
-least-requires c κs = search needs
-
-least-requires-2 : tie.Need-least-requires-2 Inv-loop μ-loop
-least-requires-2 c κs = search needs
-
-loop-holds : tie.Need-loop-holds Inv-loop μ-loop
-loop-holds c = (omega arith, omega arith, none-told _ _ _ _)
-
-mul-at : tie.Need-mul-at Inv-loop μ-loop
-mul-at c = search needs
-
-add-end : tie.Need-add-end Inv-loop μ-loop
-add-end c = search needs
-
-sub-put-pair : tie.Need-sub-put-pair Inv-loop μ-loop
-sub-put-pair c = search needs
-
-part-put-pair-start : tie.Need-part-put-pair-start Inv-loop μ-loop
-part-put-pair-start c = search needs
-
-part-put-pair-end : tie.Need-part-put-pair-end Inv-loop μ-loop
-part-put-pair-end c = search needs
-
-sub-put-pair-2 : tie.Need-sub-put-pair-2 Inv-loop μ-loop
-sub-put-pair-2 c = search needs
-
-part-put-pair-start-2 : tie.Need-part-put-pair-start-2 Inv-loop μ-loop
-part-put-pair-start-2 c = search needs
-
-part-put-pair-end-2 : tie.Need-part-put-pair-end-2 Inv-loop μ-loop
-part-put-pair-end-2 c = search needs
-
-put-pair-requires : tie.Need-put-pair-requires Inv-loop μ-loop
-put-pair-requires c κs = search needs
-
-counted-requires : tie.Need-counted-requires Inv-loop μ-loop
-counted-requires c κs = search needs
-
-add-i : tie.Need-add-i Inv-loop μ-loop
-add-i c = search needs
-
-loop-less : tie.Need-loop-less Inv-loop μ-loop
-loop-less c = search needs
-
-loop-again : tie.Need-loop-again Inv-loop μ-loop
-loop-again c = (
-  omega arith,
-  omega (arith, c .before .before .before .put-pair .ensures .1),
-  one-compared (c .before .before .before .before .before .before .before .before .before .before .before .before .before .before .args .left .now) (c .before .before .before .before .before .before .before .before .before .before .before .before .before .before .args .right .now) (c .before .before .before .before .before .before .before .before .loop .i) (c .before .before .before .before .before .before .before .before .loop .inv .2) (c .before .before .before .put-pair .ensures .0) (c .before .before .before .put-pair .ensures .2) (c .counted .ensures),
+tell-only-requires-2 : tie.Need-tell-only-requires-2
+tell-only-requires-2 c κs = (
+  more-there (c .before .before .before .before .before .before .before .before .before .before .before .before .before .before .before .before .before .args .right .now) _ _ _ (c .before .before .before .before .before .before .before .before .before .before .before .before .least2 .ensures) (omega (arith, c .before .before .before .before .before .before .before .before .before .before .before .least3 .ensures, min-le-right (c .before .before .before .before .before .before .before .before .before .before .before .before .before .least .result) (c .before .before .before .before .before .before .before .before .before .before .before .before .least2 .result))),
+  omega (
+    arith,
+    more-room (c .before .before .before .before .before .before .before .before .before .before .before .before .before .least .result) (c .before .before .before .before .before .before .before .before .before .before .before .before .least2 .result) (length (c .before .before .before .before .before .before .before .before .before .before .before .before .before .before .before .before .before .args .out .now)) (c .before .before .before .before .before .before .before .before .before .before .before .least3 .ensures) (omega (arith, c .before .before .before .before .before .before .before .before .before .before .before .before .before .least .ensures, min-le-right (length (c .before .before .before .before .before .before .before .before .before .before .before .before .before .before .before .before .before .args .left .now) / recordSize) (length (c .before .before .before .before .before .before .before .before .before .before .before .before .before .before .before .before .before .args .out .now) / positionLimit))) (omega (arith, c .before .before .before .before .before .before .before .before .before .before .before .before .least2 .ensures, min-le-right (length (c .before .before .before .before .before .before .before .before .before .before .before .before .before .before .before .before .before .args .right .now) / recordSize) (length (c .before .before .before .before .before .before .before .before .before .before .before .before .before .before .before .before .before .args .out .now) / positionLimit))) (c .before .before .before .before .before .before .before .before .before .tell-pairs .ensures .1) (c .before .before .before .before .tell-only .ensures .1),
+    c .before .before .before .before .before .before .before .before .before .tell-pairs .ensures .0 .texts .same,
+    c .before .before .before .before .tell-only .ensures .0 .texts .same,
+  ),
 )
 
-same-length : tie.Need-same-length Inv-loop μ-loop
-same-length c = search needs
-
-returns : tie.Need-returns Inv-loop μ-loop
-returns c = all-compared (c .before .before .before .before .before .before .before .args .left .now) (c .before .before .before .before .before .before .before .args .right .now) (c .before .loop .i) (omega (arith, c .before .before .least2 .ensures, c .before .before .before .least .ensures)) (c .before .loop .inv .2)
+returns : tie.Need-returns
+returns c = all-compared (c .before .before .before .before .before .before .before .before .before .before .before .before .before .before .before .before .before .before .before .before .args .left .now) (c .before .before .before .before .before .before .before .before .before .before .before .before .before .before .before .before .before .before .before .before .args .right .now) _ _ _ (c .before .before .before .before .before .before .before .before .before .before .before .before .before .before .before .before .least .ensures) (c .before .before .before .before .before .before .before .before .before .before .before .before .before .before .before .least2 .ensures) (c .before .before .before .before .before .before .before .before .before .before .before .before .before .before .least3 .ensures) (c .before .before .before .before .before .before .before .before .before .before .before .before .tell-pairs .ensures .0) (c .before .before .before .before .before .before .before .tell-only .ensures .0) (c .before .before .tell-only2 .ensures .0)
 
 pub compare-spec : {M : Type 1} → statement M
 compare-spec =
     tie.close
     (tie.spec
-    Inv-loop
-    μ-loop
-    least-requires
-    least-requires-2
-    loop-holds
-    mul-at
-    add-end
-    sub-put-pair
-    part-put-pair-start
-    part-put-pair-end
-    sub-put-pair-2
-    part-put-pair-start-2
-    part-put-pair-end-2
-    put-pair-requires
-    counted-requires
-    add-i
-    loop-less
-    loop-again
-    same-length
+    (search needs)
+    (search needs)
+    (search needs)
+    (search needs)
+    (search needs)
+    (search needs)
+    (search needs)
+    (search needs)
+    (search needs)
+    (search needs)
+    (search needs)
+    (search needs)
+    (search needs)
+    (search needs)
+    tell-only-requires-2
+    (search needs)
     returns)

@@ -1,6 +1,7 @@
 use Rattle.bench_log.specs.LogRecord.{recordsIn}
 use Rattle.bench_log.specs.Listing.{lineLimit, nextLine, nextTotals}
-use Rattle.bench_log.proofs.Items.{SoFar, none-told}
+use Rattle.bench_log.specs.Inner.Items.{SoFar}
+use Rattle.bench_log.proofs.Items.{none-told}
 use Rattle.bench_log.proofs.Lines.{one-listed, all-listed}
 use native.Mathlib.Omega.{arith}
 use Prim.Native.Nat.{_-_, _*_, _≤_}
@@ -9,7 +10,7 @@ use Rattle.bench_log.proofs.listing.list.Statement.{statement}
 use Rattle.bench_log.proofs.listing.list.Tie as tie
 
 abbrev Inv-loop : tie.InvT-loop
-Inv-loop piece out₀ count totals₀ length₀ i₀ out totals length i = (i ≤ count) × (length ≤ i * lineLimit) × SoFar nextLine nextTotals (recordsIn i piece) totals₀ out₀ totals out length
+Inv-loop piece out₀ count totals₀ length₀ i₀ out totals length i = (i ≤ count) × (length ≤ i * lineLimit) × SoFar nextLine nextTotals (recordsIn i piece) totals₀ out₀ 0 totals out length
 
 abbrev μ-loop : tie.MeasureT-loop
 μ-loop piece out₀ count totals₀ length₀ i₀ out totals length i = count - i
@@ -18,7 +19,7 @@ least-requires : tie.Need-least-requires Inv-loop μ-loop
 least-requires c κs = search needs
 
 loop-holds : tie.Need-loop-holds Inv-loop μ-loop
-loop-holds c = (omega arith, omega arith, none-told _ _ _ _)
+loop-holds c = (omega arith, omega arith, none-told _ _ _ _ _ (omega arith))
 
 mul-at : tie.Need-mul-at Inv-loop μ-loop
 mul-at c = search needs
