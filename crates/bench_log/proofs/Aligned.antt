@@ -14,7 +14,7 @@ use Rattle.codec.specs.Table.{row}
 use Rattle.codec.specs.Records.{ofRecord}
 use Rattle.codec.specs.declared.records.Record.{Record}
 use Rattle.bench_log.specs.Text.{ascii}
-use Rattle.bench_log.specs.Fields.{Contents, amount, string, LogField, prefix, blockFields, messageIdName, presence, fieldsIf, columnFields, messageFields, headFields, fieldsFrom, directionName, refusalName}
+use Rattle.bench_log.specs.Fields.{Contents, amount, string, prefix, blockFields, messageIdName, presence, fieldsIf, columnFields, messageFields, fieldsFrom, directionName, refusalName}
 use Rattle.bench_log.specs.Comparison.{Difference, difference, differing}
 use Rattle.bench_log.specs.Inner.Differences.{blockDifferences, sectionDifferences, columnDifferences, presenceDifference, messageDifferences}
 use Rattle.bench_log.proofs.Slots.{Slot, held, lefts, rights, meet, meets, distinct, slots-differ}

@@ -1,9 +1,9 @@
 -- A layout that is held as octets says what the layout says of two blocks.
-use Prim.Native.Nat.{ℕ, zero, suc, _+_, _-_, _*_, _%_, _≤_, _<_}
+use Prim.Native.Nat.{ℕ, zero, suc, _+_, _-_, _%_, _≤_, _<_}
 use native.Mathlib.Omega.{arith}
-use mathlib.Core.Path.{_≡_, refl, sym, ap, _∙_, subst}
+use mathlib.Core.Path.{_≡_, refl, sym, _∙_, subst}
 use mathlib.Core.List.{List, [], _∷_, _++_, flatten}
-use mathlib.Core.Bool.{Bool, true, false, _&&_, not, cond}
+use mathlib.Core.Bool.{Bool, true, false, _&&_}
 use lib.Dec.{leb, ltb}
 use lib.ListN.{length, getD, take, drop, replicate, length-drop}
 use lib.Seq.{take-at, getD-take, getD-drop}
@@ -18,9 +18,8 @@ use Rattle.codec.proofs.Outcomes.{and-true}
 use Rattle.codec.proofs.Laws.{part-length, suffix}
 use Rattle.codec.proofs.Layouts.{roomy-from}
 use Rattle.codec.proofs.Puts.{put-none}
-use Rattle.bench_log.specs.Text.{ascii}
 use Rattle.bench_log.specs.Fields.{amount, string, prefix}
-use Rattle.bench_log.specs.Comparison.{difference, differenceLines}
+use Rattle.bench_log.specs.Comparison.{differenceLines}
 use Rattle.bench_log.specs.Inner.Coded.{Item, itemsOf, decoded, whole, plain, width, most, contentsBy, itemDifferences, Within, linesLimit, Ready}
 use Rattle.bench_log.specs.Inner.Differences.{blockDifferences, technologyBy, blockAt, sectionLimit, BlockReady, sectionIn, SectionReady, SectionsReady}
 

@@ -1,7 +1,7 @@
 -- Counting record by record gives the totals of the list, and each record is accepted or refused.
 use Prim.Native.Nat.{ℕ, _+_, _^_, _<_}
 use native.Mathlib.Omega.{arith}
-use mathlib.Core.Path.{_≡_, refl, _∙_}
+use mathlib.Core.Path.{_≡_, refl}
 use mathlib.Core.List.{List, [], _∷_}
 use mathlib.Core.Bool.{true, not}
 use lib.Dec.{eqb}
@@ -12,7 +12,7 @@ use Rattle.codec.specs.Records.{answer}
 use Rattle.codec.specs.declared.records.Record.{Record}
 use Rattle.codec.proofs.Outcomes.{by-bool, no-zero}
 use Rattle.bench_log.specs.LogRecord.{readingOf, entryOf}
-use Rattle.bench_log.specs.Items.{howMany, countersAfter, oneMore}
+use Rattle.bench_log.specs.Items.{countersAfter, oneMore}
 use Rattle.bench_log.specs.Totals.{isAccepted, totals, noRecords, counted}
 use Rattle.bench_log.specs.Listing.{nextTotals}
 use Rattle.bench_log.specs.declared.totals.Totals.{Totals}

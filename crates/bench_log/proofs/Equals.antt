@@ -1,7 +1,7 @@
 -- Two lists of octets are the same, and two contents are alike, exactly if they are equal.
 use Prim.Native.Nat.{ℕ, zero, suc, _<_}
 use native.Mathlib.Omega.{arith}
-use mathlib.Core.Path.{_≡_, refl, ap, sym, _∙_}
+use mathlib.Core.Path.{_≡_, refl, ap, sym}
 use mathlib.Core.List.{List, [], _∷_}
 use mathlib.Core.Bool.{true, false, _&&_, and-assoc, true≢false}
 use mathlib.Core.Bool.{and-true as and-right}

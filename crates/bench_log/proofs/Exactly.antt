@@ -2,18 +2,18 @@
 use Prim.Native.Nat.{ℕ}
 use mathlib.Core.Logic.{_⊎_, inl, inr, ⊎-elim, _↔_}
 use mathlib.Core.Path.{_≡_, refl, sym, ap, _∙_, subst}
-use mathlib.Core.List.{List, [], _∷_, _++_, append-nil, List·Memᴰ, List·Memᴰ·head, List·Memᴰ·tail, List·Memᴰ·not-nil, List·Memᴰ·eq-of-singleton, List·Memᴰ·cases-cons, Memᴰ·cast, List·Memᴰ·append-cases, Memᴰ·append-left, Memᴰ·append-right}
+use mathlib.Core.List.{List, [], _∷_, _++_, List·Memᴰ, List·Memᴰ·head, List·Memᴰ·tail, List·Memᴰ·not-nil, List·Memᴰ·eq-of-singleton, List·Memᴰ·cases-cons, Memᴰ·cast, List·Memᴰ·append-cases, Memᴰ·append-left, Memᴰ·append-right}
 use mathlib.Core.Option.{Option, none, some}
-use mathlib.Core.Bool.{Bool, true, false, _&&_, cond, true≢false}
+use mathlib.Core.Bool.{Bool, true, false, true≢false}
 use lib.Dec.{eqb}
 use borrow.Author.Tests.{eqb-true, eqb-false, eq-eqb}
-use Rattle.codec.specs.Refusal.{Refusal, Checked, refuse, accept, numberOf}
+use Rattle.codec.specs.Refusal.{Checked, refuse, accept, numberOf}
 use Rattle.codec.specs.Table.{row}
 use Rattle.codec.specs.Records.{answer}
 use Rattle.codec.specs.declared.records.Record.{Record}
 use Rattle.codec.proofs.Outcomes.{by-bool, and-true}
 use Rattle.bench_log.specs.LogRecord.{readingOf, directionOf}
-use Rattle.bench_log.specs.Fields.{Contents, amount, LogField, messageIdName, headFields, messageFields, fieldsFrom, directionName, refusalName}
+use Rattle.bench_log.specs.Fields.{Contents, amount, LogField, messageIdName, messageFields, fieldsFrom, directionName, refusalName}
 use Rattle.bench_log.specs.Comparison.{same, alike, Difference, contentsIn, difference, against, differing, shown, firstNames, Differs}
 use Rattle.bench_log.specs.Inner.Pairs.{directionDifference, headDifferences}
 use Rattle.bench_log.proofs.Equals.{same-self, same-equal, amount-equal, alike-self, alike-equal}

@@ -1,18 +1,16 @@
 -- What differs in two accepted messages, by the places of their blocks.
 use Prim.Native.Nat.{ℕ, _+_, _≤_}
 use native.Mathlib.Omega.{arith}
-use mathlib.Core.Path.{_≡_, refl, sym, ap, _∙_, subst}
+use mathlib.Core.Path.{_≡_, refl, sym, ap, _∙_}
 use mathlib.Core.List.{List, [], _∷_, _++_, map, flatten, append-nil}
-use mathlib.Core.Option.{Option, none, some}
-use mathlib.Core.Bool.{Bool, true, false, _&&_, cond}
-use lib.Dec.{eqb}
+use mathlib.Core.Bool.{true}
 use lib.ListN.{length, getD, drop}
 use borrow.Author.Tests.{eq-eqb, ne-eqb, leb-true}
 use Rattle.codec.specs.Octets.{Octets}
-use Rattle.codec.specs.Technology.{Technology, uwb, cs, nan, rssi, technologyId, technologies, known, names, inBoth}
+use Rattle.codec.specs.Technology.{Technology, uwb, cs, nan, rssi, technologyId, technologies, known, names}
 use Rattle.codec.specs.Layout.{value}
 use Rattle.codec.specs.Blocks.{Column, capabilities, configurations, cell}
-use Rattle.codec.specs.Table.{messageOf, Row, row}
+use Rattle.codec.specs.Table.{messageOf, Row}
 use Rattle.codec.specs.Records.{StructOf, fields, columnIn, ofRecord}
 use Rattle.codec.specs.Message.{idOf, setOf}
 use Rattle.codec.specs.Inner.Places.{Roomy, fieldsAt, columnAt, columnFound, recordAt, Located}
@@ -24,10 +22,10 @@ use Rattle.codec.proofs.Rows.{column-there, other-alone}
 use Rattle.codec.proofs.Layouts.{fields-there}
 use Rattle.codec.proofs.Puts.{put-then}
 use Rattle.codec.specs.declared.records.Record.{Record}
-use Rattle.bench_log.specs.Fields.{prefix, messageIdName, amount}
+use Rattle.bench_log.specs.Fields.{messageIdName, amount}
 use Rattle.bench_log.specs.Comparison.{Difference, difference, differenceLines}
 use Rattle.bench_log.specs.Inner.Coded.{linesLimit}
-use Rattle.bench_log.specs.Inner.Differences.{sectionDifferences, columnDifferences, presenceDifference, messageDifferences, blockAt, sectionLimit, sectionIn, SectionsReady, readDifferences, messagesLimit, MessagesReady}
+use Rattle.bench_log.specs.Inner.Differences.{sectionDifferences, presenceDifference, blockAt, sectionLimit, sectionIn, SectionsReady, readDifferences, messagesLimit, MessagesReady}
 use Rattle.bench_log.proofs.Differences.{lines-append}
 
 column-in : (m places : List ℕ) (k : Column) → columnIn (recordAt m places) k ≡ columnFound m places k

@@ -3,23 +3,23 @@ use Prim.Native.Nat.{ℕ, _+_, _*_, _/_, _%_, _^_, _<_}
 use native.Mathlib.Omega.{arith}
 use mathlib.Core.Logic.{_↔_}
 use mathlib.Core.Path.{_≡_, refl, sym, ap, _∙_, subst}
-use mathlib.Core.List.{List, [], _∷_, _++_, map, flatten, append-nil, nil≢cons}
+use mathlib.Core.List.{List, [], _∷_, _++_, map, flatten, nil≢cons}
 use mathlib.Core.Option.{Option, none, some}
-use mathlib.Core.Bool.{Bool, true, false, _&&_, cond, true≢false}
+use mathlib.Core.Bool.{true, cond}
 use lib.Dec.{eqb}
 use lib.ListN.{take}
-use borrow.Author.Tests.{eqb-true, eq-eqb, eqb-false, ne-eqb}
-use Rattle.codec.specs.Octets.{Octets, toLE}
-use Rattle.codec.specs.Refusal.{Refusal, Checked, refuse, accept, numberOf, andThen}
+use borrow.Author.Tests.{eqb-true, eq-eqb, eqb-false}
+use Rattle.codec.specs.Octets.{Octets}
+use Rattle.codec.specs.Refusal.{Checked, refuse, accept, numberOf}
 use Rattle.codec.specs.Technology.{Technology, uwb, cs, nan, rssi, technologyId, technologies, setLimit, names}
 use Rattle.codec.specs.Layout.{Layout, number, octets, counted, Values, write}
 use Rattle.codec.specs.Blocks.{Column, cell}
 use Rattle.codec.specs.Table.{messageLimit, row}
 use Rattle.codec.specs.Message.{reading}
-use Rattle.codec.specs.Records.{ofRecord, answer, accepted}
+use Rattle.codec.specs.Records.{ofRecord, answer}
 use Rattle.codec.specs.WellFormed.{Each, sets}
 use Rattle.codec.specs.Valid.{TypedRecord, valid}
-use Rattle.codec.specs.NormalForm.{block, rising, columnBlocks, blocksOf, normal}
+use Rattle.codec.specs.NormalForm.{rising, columnBlocks, blocksOf, normal}
 use Rattle.codec.specs.declared.records.Record.{Record}
 use Rattle.codec.specs.declared.records.Reading.{Reading}
 use Rattle.codec.proofs.Outcomes.{by-bool, and-true, no-zero}
@@ -30,7 +30,7 @@ use Rattle.codec.proofs.Demand2.{reads-back, accepted-valid}
 use Rattle.bench_log.specs.Text.{ascii}
 use Rattle.bench_log.specs.LogRecord.{lengthIn, messageIn, keepsLayout, takenApart, readingOf, directionOf}
 use Rattle.bench_log.specs.Fields.{Contents, amount, string, prefix, messageIdName, presence, directionName, refusalName}
-use Rattle.bench_log.specs.Comparison.{same, alike, Difference, difference, shown, normalFormOf, sameReading}
+use Rattle.bench_log.specs.Comparison.{alike, Difference, difference, shown, normalFormOf, sameReading}
 use Rattle.bench_log.proofs.Equals.{same-self, same-equal, amount-equal, string-equal, alike-self, alike-equal}
 use Rattle.bench_log.specs.Inner.Pairs.{directionDifference, headDifferences}
 use Rattle.bench_log.specs.Inner.Differences.{blockDifferences, sectionDifferences, columnDifferences, presenceDifference, messageDifferences}

@@ -6,10 +6,10 @@ use mathlib.Core.List.{List, [], _∷_, _++_, map, flatten, append-nil}
 use mathlib.Core.Bool.{true, false}
 use lib.Dec.{eqb}
 use lib.ListN.{length, length-append}
-use borrow.Author.Tests.{eq-eqb, eqb-true, eqb-false}
-use Rattle.codec.specs.Refusal.{Refusal, Checked, refuse, accept, numberOf, andThen, brokenRecord}
+use borrow.Author.Tests.{eqb-true, eqb-false}
+use Rattle.codec.specs.Refusal.{Checked, refuse, accept, andThen}
 use Rattle.codec.specs.Octets.{Octets, part}
-use Rattle.codec.specs.Table.{messageLimit, row}
+use Rattle.codec.specs.Table.{messageLimit}
 use Rattle.codec.specs.Records.{answer, accepted}
 use Rattle.codec.specs.Message.{parse, recordOf, idOf, setOf, reading}
 use Rattle.codec.specs.Inner.Places.{numberIn, recordAt, Located}
@@ -22,11 +22,11 @@ use Rattle.codec.proofs.Laws.{octets-part}
 use Rattle.bench_log.specs.LogRecord.{Held, takenApart, partsOf, readingOf, directionOf}
 use Rattle.bench_log.specs.Text.{ascii, decimal}
 use Rattle.bench_log.specs.Comparison.{same, Difference, difference, shown, sameReading, shownContents, differenceLine, differenceLines, pairLines, pairKind}
-use Rattle.bench_log.specs.Inner.Pairs.{directionDifference, headDifferences, Holds, Sees}
+use Rattle.bench_log.specs.Inner.Pairs.{directionDifference, headDifferences, Sees}
 use Rattle.bench_log.specs.Inner.Differences.{readDifferences, MessagesReady, messagesLimit}
 use Rattle.bench_log.specs.declared.layout.Parts.{Parts}
 use Rattle.bench_log.specs.declared.pair.Seen.{Seen}
-use Rattle.bench_log.proofs.Entries.{Apart, apart, broken}
+use Rattle.bench_log.proofs.Entries.{apart, broken}
 use Rattle.bench_log.proofs.Shown.{shownFrom, shown-left, shown-right, shown-ids, shown-messages}
 use Rattle.bench_log.proofs.Differences.{lines-append}
 use Rattle.bench_log.proofs.Readings.{same-exactly}

@@ -3,10 +3,9 @@ use Prim.Native.Nat.{ℕ}
 use mathlib.Core.Path.{_≡_, refl, sym, ap, _∙_}
 use mathlib.Core.List.{List, [], _∷_, _++_, map, flatten, append-assoc, append-nil}
 use mathlib.Core.Option.{Option, none, some}
-use mathlib.Core.Bool.{Bool, true, false, _&&_, cond}
-use lib.Dec.{eqb}
+use mathlib.Core.Bool.{false, _&&_}
 use lib.ListN.{take}
-use borrow.Author.Tests.{eqb-true, eq-eqb, ne-eqb}
+use borrow.Author.Tests.{eq-eqb, ne-eqb}
 use Rattle.codec.specs.Refusal.{Refusal, Checked, refuse, accept, numberOf}
 use Rattle.codec.specs.Technology.{Technology, uwb, cs, nan, rssi, technologies, names}
 use Rattle.codec.specs.Layout.{Layout, number, octets, counted, Values}

@@ -1,14 +1,14 @@
 -- Fields side by side: a slot for each name, with what either side holds under it. Where no name comes twice, the fields that differ are
 -- those of the slots with both.
 use Prim.Native.Nat.{ℕ}
-use mathlib.Core.Path.{_≡_, refl, ap, _∙_}
-use mathlib.Core.List.{List, [], _∷_, _++_, map, append-assoc}
+use mathlib.Core.Path.{_≡_, refl, _∙_}
+use mathlib.Core.List.{List, [], _∷_, _++_}
 use mathlib.Core.Option.{Option, none, some}
 use mathlib.Core.Bool.{Bool, true, false, _&&_, not}
 use borrow.Author.Tests.{not-true}
 use Rattle.codec.proofs.Outcomes.{and-true}
 use Rattle.bench_log.specs.Fields.{Contents, LogField}
-use Rattle.bench_log.specs.Comparison.{same, Difference, contentsIn, difference, against, differing}
+use Rattle.bench_log.specs.Comparison.{same, Difference, contentsIn, difference, differing}
 use Rattle.bench_log.proofs.Equals.{same-self}
 
 pub record Slot : Type 0 where

@@ -1,14 +1,14 @@
 -- Walking over a layout that is held as octets, and over two blocks with it.
-use Prim.Native.Nat.{ℕ, zero, suc, _+_, _-_, _*_, _%_, _≤_, _<_}
+use Prim.Native.Nat.{ℕ, suc, _+_, _-_, _*_, _%_, _≤_, _<_}
 use native.Mathlib.Omega.{arith}
 use native.Mathlib.Nat.{add-assoc}
 use mathlib.Core.Path.{_≡_, refl, sym, ap, _∙_, subst}
 use mathlib.Core.List.{List, [], _∷_, _++_, append-assoc, append-nil, flatten}
 use mathlib.Core.Bool.{true, _&&_, _||_}
-use lib.Dec.{leb, ltb, eqb}
+use lib.Dec.{leb}
 use lib.ListN.{length, getD, drop, length-drop}
 use lib.Seq.{getD-drop, drop-drop}
-use borrow.Author.Tests.{eqb-true, ne-eqb, lt-ltb, le-ltb, lt-leb, leb-true}
+use borrow.Author.Tests.{eqb-true, ne-eqb, lt-ltb, lt-leb, leb-true}
 use Rattle.codec.specs.Octets.{part, ofLE}
 use Rattle.codec.specs.Inner.Puts.{Put}
 use Rattle.codec.proofs.Laws.{part-length, head-at}
@@ -16,7 +16,7 @@ use Rattle.codec.proofs.Outcomes.{and-true}
 use Rattle.codec.proofs.Puts.{put-then, put-none}
 use Rattle.bench_log.specs.Comparison.{difference, differenceLines}
 use Rattle.bench_log.proofs.Differences.{lines-append}
-use Rattle.bench_log.specs.Inner.Coded.{Item, decoded, whole, isWidth, plain, width, most, contentsBy, itemDifferences, Within, lineLimit, linesLimit, FieldReady, Ready}
+use Rattle.bench_log.specs.Inner.Coded.{Item, decoded, whole, isWidth, plain, width, contentsBy, itemDifferences, Within, lineLimit, linesLimit, FieldReady, Ready}
 
 -- ---- a number of one, two or four octets
 

@@ -7,7 +7,6 @@ use mathlib.Core.Path.{_≡_, refl, sym, ap, _∙_, subst}
 use mathlib.Core.Option.{Option, none, some}
 use mathlib.Core.Bool.{Bool, true, false, cond, true≢false}
 use mathlib.Core.List.{List, [], _∷_, _++_, append-nil, flatten}
-use lib.Count.{ones}
 use lib.Dec.{eqb}
 use lib.ListN.{length, getD, take}
 use lib.Seq.{take-length}
@@ -30,7 +29,7 @@ use Rattle.codec.proofs.Fields.{octets-left, octets-right, typed-zeroes
 use Rattle.codec.proofs.Bits.{bit-under}
 use Rattle.codec.proofs.Counting.{has-some, all-named}
 use Rattle.codec.proofs.Every.{Among, first, further, each-at}
-use Rattle.codec.proofs.Cells.{cell-fits, layout-of, cell-here, technology-below}
+use Rattle.codec.proofs.Cells.{cell-fits, layout-of, cell-here}
 use Rattle.codec.proofs.Risings.{Ascending, ascending}
 use Rattle.codec.proofs.Rows.{Carries, column, carries, column-there, named-there, known-named}
 use Rattle.codec.proofs.MessageCases.{assigned-under}

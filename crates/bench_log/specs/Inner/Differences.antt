@@ -13,11 +13,10 @@ use Rattle.codec.specs.Blocks.{Column, capabilities, configurations, cell}
 use Rattle.codec.specs.Records.{ofRecord}
 use Rattle.codec.specs.Table.{row}
 use Rattle.codec.specs.Inner.Places.{Roomy, Located}
-use Rattle.codec.specs.Inner.Puts.{Put}
 use Rattle.codec.specs.declared.records.Record.{Record}
 use Rattle.bench_log.specs.Text.{ascii}
 use Rattle.bench_log.specs.Fields.{amount, string, prefix, messageIdName, presence}
-use Rattle.bench_log.specs.Comparison.{Difference, difference, differenceLines}
+use Rattle.bench_log.specs.Comparison.{Difference, difference}
 use Rattle.bench_log.specs.Inner.Coded.{itemsOf, linesLimit}
 
 -- the fields of two blocks that differ

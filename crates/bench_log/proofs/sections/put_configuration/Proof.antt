@@ -1,6 +1,6 @@
 use Rattle.bench_log.specs.Inner.Coded.{decoded}
 use Rattle.codec.specs.Blocks.{configurations}
-use Rattle.bench_log.proofs.Coded.{is-uwb, is-cs, is-nan, is-rssi, Codes, codes, block-ready, block-put}
+use Rattle.bench_log.proofs.Coded.{is-uwb, is-cs, is-nan, is-rssi, codes, block-ready, block-put}
 use mathlib.Core.Path.{refl}
 use borrow.Author.Needs.{needs}
 use Rattle.bench_log.proofs.sections.put_configuration.Statement.{statement}
