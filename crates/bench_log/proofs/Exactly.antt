@@ -17,7 +17,7 @@ use Rattle.bench_log.specs.Fields.{Contents, amount, LogField, messageId
 use Rattle.bench_log.specs.Comparison.{same, alike, Difference, contentsIn, difference, against, differing, shown, firstNames, Differs}
 use Rattle.bench_log.specs.Inner.Pairs.{directionDifference, headDifferences}
 use Rattle.bench_log.proofs.Equals.{same-self, same-equal, amount-equal, alike-self, alike-equal}
-use Rattle.bench_log.proofs.Slots.{Slot, held, rights, unheard, distinct, none-right}
+use Rattle.bench_log.proofs.Slots.{Slot, held, rights, isNew, distinct, none-right}
 use Rattle.bench_log.proofs.Aligned.{slotsOf, slots-distinct, slots-right, messages-differ}
 use Rattle.bench_log.proofs.Shown.{shownFrom, differ-left, differ-right, shown-left, shown-right, shown-ids, shown-messages}
 
@@ -49,9 +49,9 @@ abbrev Facts : List LogField → List LogField → Difference → Type 0
 Facts fs gs d = (contentsIn fs (d .name) ≡ some (d .left)) × (contentsIn gs (d .name) ≡ some (d .right)) × (d .left ≡ d .right → ⊥)
 
 -- no name comes twice
-abbrev Lonely : List LogField → Type 0
-Lonely [] = Unit {0}
-Lonely (f ∷ fs) = (contentsIn fs (f .name) ≡ none) × Lonely fs
+abbrev Unrepeated : List LogField → Type 0
+Unrepeated [] = Unit {0}
+Unrepeated (f ∷ fs) = (contentsIn fs (f .name) ≡ none) × Unrepeated fs
 
 here-facts : (f : LogField) (fs gs : List LogField) (o : Option Contents) (d : Difference) → contentsIn gs (f .name) ≡ o → List·Memᴰ d (against f o) → Facts (f ∷ fs) gs d
 unfolding contentsIn
@@ -67,7 +67,7 @@ there-facts f fs gs d n h =
     (λ t. absurd (not-none (sym n ∙ ap (contentsIn fs) (same-equal (f .name) (d .name) t) ∙ h .0)))
     (λ t. (rw t (h .0), h .1, h .2))
 
-differing-facts : (fs gs : List LogField) → Lonely fs → (d : Difference) → List·Memᴰ d (differing fs gs) → Facts fs gs d
+differing-facts : (fs gs : List LogField) → Unrepeated fs → (d : Difference) → List·Memᴰ d (differing fs gs) → Facts fs gs d
 unfolding differing
 differing-facts [] gs l d m = absurd (List·Memᴰ·not-nil m)
 differing-facts (f ∷ fs) gs l d m = go (differing-facts fs gs (l .1) d) (List·Memᴰ·append-cases (against f (contentsIn gs (f .name))) m)
@@ -90,22 +90,22 @@ facts-differing (f ∷ fs) gs d h =
 
 -- ---- the fields of a record have different names
 
-held-lonely : (x : List ℕ) (o : Option Contents) (fs : List LogField) → contentsIn fs x ≡ none → Lonely fs → Lonely (held x o ++ fs)
-held-lonely x none fs n l = l
-held-lonely x (some c) fs n l = (n, l)
+held-unrepeated : (x : List ℕ) (o : Option Contents) (fs : List LogField) → contentsIn fs x ≡ none → Unrepeated fs → Unrepeated (held x o ++ fs)
+held-unrepeated x none fs n l = l
+held-unrepeated x (some c) fs n l = (n, l)
 
-rights-lonely : (ss : List Slot) → distinct ss ≡ true → Lonely (rights ss)
-rights-lonely [] e = tt
-rights-lonely (s ∷ ss) e =
-    let a = and-true (unheard (s .name) ss) (distinct ss) e in
-    held-lonely (s .name) (s .right) (rights ss) (none-right (s .name) ss (a .0)) (rights-lonely ss (a .1))
+rights-unrepeated : (ss : List Slot) → distinct ss ≡ true → Unrepeated (rights ss)
+rights-unrepeated [] e = tt
+rights-unrepeated (s ∷ ss) e =
+    let a = and-true (isNew (s .name) ss) (distinct ss) e in
+    held-unrepeated (s .name) (s .right) (rights ss) (none-right (s .name) ss (a .0)) (rights-unrepeated ss (a .1))
 
-fields-lonely : (direction : ℕ) (c : Checked Record) → Lonely (fieldsFrom direction c)
+fields-unrepeated : (direction : ℕ) (c : Checked Record) → Unrepeated (fieldsFrom direction c)
 unfolding contentsIn
-fields-lonely direction (refuse x) = (refl, (refl, tt))
-fields-lonely direction (accept a) =
+fields-unrepeated direction (refuse x) = (refl, (refl, tt))
+fields-unrepeated direction (accept a) =
     let c = row (a .id) .column in
-    subst Lonely (slots-right a a direction direction c refl) (rights-lonely (slotsOf a a direction direction c) (slots-distinct a a direction direction c))
+    subst Unrepeated (slots-right a a direction direction c refl) (rights-unrepeated (slotsOf a a direction direction c) (slots-distinct a a direction direction c))
 
 -- ---- what is shown
 
@@ -119,7 +119,7 @@ module _ (dl dr : ℕ) (l r : Checked Record) (uncut : shownFrom dl l dr r ≡ d
     (reached : (d : Difference) → List·Memᴰ d (shownFrom dl l dr r) → List·Memᴰ (d .name) firstNames ⊎ (contentsIn (fieldsFrom dl l) messageIdName ≡ contentsIn (fieldsFrom dr r) messageIdName)) where
   uncut-exactly : (d : Difference) → List·Memᴰ d (shownFrom dl l dr r) ↔ Said dl l dr r d
   uncut-exactly d = (
-    λ m. (differing-facts (fieldsFrom dl l) (fieldsFrom dr r) (fields-lonely dl l) d (subst (List·Memᴰ d) uncut m), reached d m),
+    λ m. (differing-facts (fieldsFrom dl l) (fieldsFrom dr r) (fields-unrepeated dl l) d (subst (List·Memᴰ d) uncut m), reached d m),
     λ h. subst (List·Memᴰ d) (sym uncut) (facts-differing (fieldsFrom dl l) (fieldsFrom dr r) d (h .0)),
   )
 

@@ -38,13 +38,13 @@ meets [] = []
 meets (s ∷ ss) = meet (s .name) (s .left) (s .right) ++ meets ss
 
 -- no name comes twice
-abbrev pub unheard : List ℕ → List Slot → Bool
-unheard x [] = true
-unheard x (s ∷ ss) = not (same (s .name) x) && (not (same x (s .name)) && unheard x ss)
+abbrev pub isNew : List ℕ → List Slot → Bool
+isNew x [] = true
+isNew x (s ∷ ss) = not (same (s .name) x) && (not (same x (s .name)) && isNew x ss)
 
 abbrev pub distinct : List Slot → Bool
 distinct [] = true
-distinct (s ∷ ss) = unheard (s .name) ss && distinct ss
+distinct (s ∷ ss) = isNew (s .name) ss && distinct ss
 
 held-other : (y : List ℕ) (o : Option Contents) (fs : List LogField) (x : List ℕ) → same y x ≡ false → contentsIn (held y o ++ fs) x ≡ contentsIn fs x
 unfolding contentsIn
@@ -57,7 +57,7 @@ held-here x none fs e = e
 held-here x (some c) fs e = rw (same-self x)
 
 module _ (x : List ℕ) where
-  pub none-right : (ss : List Slot) → unheard x ss ≡ true → contentsIn (rights ss) x ≡ none
+  pub none-right : (ss : List Slot) → isNew x ss ≡ true → contentsIn (rights ss) x ≡ none
   unfolding contentsIn
   none-right [] e = refl
   none-right (s ∷ ss) e =
@@ -72,7 +72,7 @@ module _ (x : List ℕ) where
   one-left y (some c) o fs gs e h = rw (held-other x o gs y e, h)
 
   -- a field of that name on the right meets none of these
-  passed-over : (o : Option Contents) (ss : List Slot) (gs : List LogField) → unheard x ss ≡ true → differing (lefts ss) (held x o ++ gs) ≡ differing (lefts ss) gs
+  passed-over : (o : Option Contents) (ss : List Slot) (gs : List LogField) → isNew x ss ≡ true → differing (lefts ss) (held x o ++ gs) ≡ differing (lefts ss) gs
   unfolding differing
   passed-over o [] gs e = refl
   passed-over o (s ∷ ss) gs e =
@@ -91,6 +91,6 @@ pub slots-differ : (ss : List Slot) → distinct ss ≡ true → differing (left
 unfolding differing
 slots-differ [] e = refl
 slots-differ (s ∷ ss) e =
-    let a = and-true (unheard (s .name) ss) (distinct ss) e in
+    let a = and-true (isNew (s .name) ss) (distinct ss) e in
     one-slot (s .name) (s .left) (s .right) (lefts ss) (rights ss) (meets ss) (none-right (s .name) ss (a .0))
     (passed-over (s .name) (s .right) ss (rights ss) (a .0) ∙ slots-differ ss (a .1))
