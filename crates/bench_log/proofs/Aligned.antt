@@ -157,7 +157,7 @@ module _ (a b : Record) where
   presences-meet (t ∷ ts) ss = rw (presences-meet ts ss) (sym (append-assoc (presenceDifference (a .set) (b .set) t) _ _))
 
   module _ (dl dr : ℕ) (c : Option Column) where
-    pub slots-left : row (a .id) .column ≡ c → lefts (slotsOf dl dr c) ≡ fieldsFrom dl (accept a)
+    slots-left : row (a .id) .column ≡ c → lefts (slotsOf dl dr c) ≡ fieldsFrom dl (accept a)
     unfolding messageFields
     slots-left e = rw (e, column-left c)
 
@@ -165,7 +165,7 @@ module _ (a b : Record) where
     unfolding messageFields
     slots-right e = rw (e, column-right c)
 
-    pub slots-meet : meets (slotsOf dl dr c) ≡ difference directionName (amount dl) (amount dr) ++ (difference messageIdName (amount (a .id)) (amount (b .id)) ++ messageDifferences a b c)
+    slots-meet : meets (slotsOf dl dr c) ≡ difference directionName (amount dl) (amount dr) ++ (difference messageIdName (amount (a .id)) (amount (b .id)) ++ messageDifferences a b c)
     unfolding difference
     slots-meet =
         ap (λ (ds : List Difference). difference directionName (amount dl) (amount dr) ++ (difference messageIdName (amount (a .id)) (amount (b .id)) ++ ds))

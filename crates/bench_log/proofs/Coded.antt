@@ -196,7 +196,7 @@ module _ (k : Column) {t u : Technology} (same : t ≡ u) {l r d : List ℕ} {at
       rw same (rw text at (p .0), rw i at (p .1))
 
 -- at places of two messages, for the technology of an ID
-pub id-by : (id : ℕ) → id < 4 → technologyId (technologyBy id) ≡ id
+id-by : (id : ℕ) → id < 4 → technologyId (technologyBy id) ≡ id
 unfolding technologyBy
 id-by zero h = refl
 id-by (suc zero) h = refl

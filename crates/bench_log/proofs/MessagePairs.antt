@@ -50,7 +50,7 @@ module _ {m places : List ℕ} (l : Located m 0 places) (o : Octets m) (k : Colu
 abbrev columnLimit : Column → ℕ
 columnLimit k = sectionLimit k uwb + (sectionLimit k cs + (sectionLimit k nan + sectionLimit k rssi))
 
-pub column-limit : (k : Column) → columnLimit k ≤ 1944
+column-limit : (k : Column) → columnLimit k ≤ 1944
 unfolding sectionLimit linesLimit
 column-limit capabilities = leb-true (columnLimit capabilities) 1944 refl
 column-limit configurations = leb-true (columnLimit configurations) 1944 refl
@@ -69,13 +69,7 @@ module _ {l places r others d : List ℕ} {at : ℕ} (h : MessagesReady l places
   abbrev u : ℕ
   u = known (setOf r)
 
-  presences : List Difference
-  presences = flatten (map (presenceDifference s u) technologies)
-
   module _ (k : Column) (e : idOf l ≡ messageOf k) where
-    sections : List Difference
-    sections = flatten (map (sectionIn k s u l places r others) technologies)
-
     section-is : (t : Technology) → sectionDifferences a b k t ≡ sectionIn k s u l places r others t
     unfolding sectionIn blockAt
     section-is t =
@@ -97,11 +91,11 @@ module _ {l places r others d : List ℕ} {at : ℕ} (h : MessagesReady l places
       room = omega (arith, g, column-limit k);
     }
 
-    pub with-blocks : readDifferences a b ≡ flatten (map (presenceDifference s u) technologies) ++ flatten (map (sectionIn k s u l places r others) technologies)
+    with-blocks : readDifferences a b ≡ flatten (map (presenceDifference s u) technologies) ++ flatten (map (sectionIn k s u l places r others) technologies)
     unfolding readDifferences
     with-blocks = rw (eq-eqb (idOf l) (idOf r) same, column-there (idOf l) k (eq-eqb (idOf l) (messageOf k) e)) (ap (λ (x : List Difference). flatten (map (presenceDifference s u) technologies) ++ x) (each-is technologies))
 
-  pub without-blocks : (idOf l ≡ 1 → ⊥) → (idOf l ≡ 2 → ⊥) → readDifferences a b ≡ flatten (map (presenceDifference s u) technologies)
+  without-blocks : (idOf l ≡ 1 → ⊥) → (idOf l ≡ 2 → ⊥) → readDifferences a b ≡ flatten (map (presenceDifference s u) technologies)
   unfolding readDifferences
   without-blocks x y = rw (eq-eqb (idOf l) (idOf r) same, ap (λ (R : Row). R .column) (other-alone (idOf l) x y)) (append-nil (flatten (map (presenceDifference s u) technologies)))
 

@@ -90,7 +90,7 @@ module _ (a b : ℕ) (l r : List ℕ) where
   none : (n : ℕ) (m : List ℕ) → n ≡ pairs → rest n m ≡ []
   none n m e = let z : n - pairs ≡ 0 = omega arith in rw z
 
-  pub in-turn : positions (recordsIn a l) (recordsIn b r)
+  in-turn : positions (recordsIn a l) (recordsIn b r)
       ≡ positions (recordsIn pairs l) (recordsIn pairs r) ++ (map onlyLeft (rest a l) ++ map onlyRight (rest b r))
   in-turn =
       let x : a ≡ pairs + (a - pairs) = omega (arith, min-le-left a b) in

@@ -131,7 +131,7 @@ nothing n (d ∷ ds) e = absurd (omega (arith, e, length-append (differenceLine 
 
 module _ (n : ℕ) (l r : List ℕ) {d e : List ℕ} {at p : ℕ} (other : same l r ≡ false) (o : Octets l × Octets r) (put : Put d at (differenceLines n (shown l r)) e p) where
   -- nothing was laid out
-  pub said-same : p ≡ at → (shown l r ≡ []) × (sameReading l r ≡ true)
+  said-same : p ≡ at → (shown l r ≡ []) × (sameReading l r ≡ true)
   said-same z = let x = nothing n (shown l r) (omega (arith, put .place)) in (x, same-exactly l r (o .0) (o .1) .1 x)
 
   pub put-same : {f : List ℕ} {q : ℕ} → p ≡ at → Put e at (decimal n ++ ascii " same reading\n") f q → Put d at (pairLines n l r) f q × (1 ≡ pairKind l r)
