@@ -67,8 +67,8 @@ static void call_second_read(void) { second = read_second(message, length); }
 static void call_second_write(void) { written.length = write_second(&second, out, sizeof out); }
 static void call_block(void) { block = nth_block(message, length, block_count); }
 static void call_second_block(void) { block_second = nth_block_second(message, length, block_count); }
-static void call_start(void) { started = start(reading.value, RAYDULCIMER_REPLIES_NOT_SAID); }
-static void call_second_start(void) { started_second = start_second(&second, RAYDULCIMER_REPLIES_NOT_SAID); }
+static void call_start(void) { started = start(reading.value, RAYDULCIMER_REPLIES_ON); }
+static void call_second_start(void) { started_second = start_second(&second, RAYDULCIMER_REPLIES_ON); }
 
 /* The call of a name; NULL for none. */
 static void (*named(const char *name, int proved))(void)

@@ -58,8 +58,8 @@ static void begin(const char *call)
 {
     choose("response");
     struct second_reading profile = second_read(message, length);
-    session = raydulcimer_start(raydulcimer_read(message, length).value, RAYDULCIMER_REPLIES_NOT_SAID).session;
-    second = second_start(&profile, 0);
+    session = raydulcimer_start(raydulcimer_read(message, length).value, RAYDULCIMER_REPLIES_ON).session;
+    second = second_start(&profile, RAYDULCIMER_REPLIES_ON);
     if (!strcmp(call, "stop")) {
         choose("configuration");
         said = raydulcimer_message(&session, message, length, out, sizeof out);

@@ -82,8 +82,9 @@ static inline const char *raydulcimer_refusal_words(uint8_t refusal)
     }
 }
 
-/* The choice of explicit replies, messages 3 and 7. */
-#define RAYDULCIMER_REPLIES_NOT_SAID 0 /* which means on */
+/* The choice of explicit replies: with on, a Configuration is answered with message 3 and a Stop with message 7; else neither is
+   written. */
+#define RAYDULCIMER_REPLIES_NOT_SAID 0 /* which means off */
 #define RAYDULCIMER_REPLIES_ON 1
 #define RAYDULCIMER_REPLIES_OFF 2
 
@@ -251,7 +252,7 @@ struct raydulcimer_answer {
 };
 
 /* RAYDULCIMER_OK and a fresh session with the profile; or RAYDULCIMER_NOT_VALID and a fresh session with an empty profile and
-   replies not said. The calls serve that one too: it advertises no technology and sets none. */
+   replies not said. The calls serve that one too: it advertises no technology, sets none, and writes neither message 3 nor 7. */
 struct raydulcimer_started {
     struct raydulcimer_session session;
     uint8_t refusal;
@@ -318,8 +319,8 @@ struct raydulcimer_started raydulcimer_start(struct raydulcimer_record profile, 
 /* Gives a session a message and a buffer for the reply. Tested in this order: the session's profile
    (RAYDULCIMER_NOT_VALID), the message as raydulcimer_read does, that it is a Request, a Configuration or a Stop
    (RAYDULCIMER_NOT_FOR_TAG), and that the reply fits the buffer (RAYDULCIMER_BUFFER_TOO_SHORT). A refused call leaves session and
-   buffer as they were; otherwise only the reply's own octets change in the buffer. With explicit replies off a Configuration
-   or a Stop is answered with length 0, and with its set all the same.
+   buffer as they were; otherwise only the reply's own octets change in the buffer. With explicit replies off,
+   or not said, a Configuration or a Stop is answered with length 0, and with its set all the same.
 
    A Request is answered with the blocks that it names and the profile has. A Configuration sets each technology that it
    names and the profile has, with settings within the profile, and, for UWB, with the mark not standing; what is not set goes

@@ -20,7 +20,7 @@
 //! assert_eq!(read(&[1, 0, 9]), Err(Refusal::EndsEarly));
 //!
 //! let profile = read(&[1, 1, 8, 0, 3, 8, 1, 2, 3, 4, 5, 6])?;
-//! let mut session = Session::start(&profile, Replies::NotSaid)?;
+//! let mut session = Session::start(&profile, Replies::On)?;
 //! let answer = session.message(&[1, 2, 8, 0, 8, 0, 3, 8, 6, 5, 4, 3, 2, 1], &mut buffer)?;
 //! assert_eq!(buffer[..answer.length], [1, 3, 8, 0]);
 //! assert_eq!(answer.set, Technologies::RSSI);

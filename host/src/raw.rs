@@ -10,7 +10,7 @@ use crate::{Capability, NanConfiguration, Record, Rssi, Technologies, UwbConfigu
 #[allow(missing_docs)]
 pub struct Profile {
     pub set: Technologies,
-    /// 0 not said, 1 on, 2 off
+    /// 0 not said, which means off, 1 on, 2 off
     pub replies: u8,
     pub capability: Capability,
 }

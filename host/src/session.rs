@@ -2,11 +2,11 @@
 use crate::raw;
 use crate::{NanConfiguration, Record, Refusal, Rssi, Technologies, UwbConfiguration};
 
-/// The choice of explicit replies, messages 3 and 7.
+/// The choice of explicit replies: message 3 to a Configuration, message 7 to a Stop.
 #[derive(Clone, Copy, PartialEq, Eq, Debug, Default)]
 #[repr(u8)]
 pub enum Replies {
-    /// Which means on.
+    /// Which means off.
     #[default]
     NotSaid = 0,
     /// They are written.
@@ -55,7 +55,7 @@ impl Session {
     }
 
     /// Takes a message, with a buffer for the reply. Only the reply's own octets change in the buffer. With explicit replies
-    /// off a Configuration or a Stop is answered with length 0, and with its set all the same.
+    /// off, or not said, a Configuration or a Stop is answered with length 0, and with its set all the same.
     ///
     /// A Request is answered with the blocks that it names and the profile has. A Configuration sets each technology that it
     /// names and the profile has, with settings within the profile, and, for UWB, with the mark not standing; what is not set

@@ -33,7 +33,7 @@ fn give(session: &mut Session, message: &[u8]) -> Result<(Vec<u8>, u16, u16), Re
 
 #[test]
 fn profile_of_rssi_only() {
-    let mut session = started(&RSSI_ONLY, Replies::NotSaid);
+    let mut session = started(&RSSI_ONLY, Replies::On);
     assert_eq!(give(&mut session, &[1, 0, 9, 0]), Ok((RSSI_ONLY.to_vec(), 0, 0)));
     let configuration = [1, 2, 8, 0, 8, 0, 3, 8, 1, 2, 3, 4, 5, 6];
     assert_eq!(give(&mut session, &configuration), Ok((vec![1, 3, 8, 0], 8, 0)));
@@ -41,7 +41,7 @@ fn profile_of_rssi_only() {
     assert_eq!(give(&mut session, &[1, 6, 9, 0]), Ok((vec![1, 7, 8, 0], 0, 8)));
     assert_eq!(session.rssi(), None);
     assert_eq!(give(&mut session, &[1, 6, 9, 0]), Ok((vec![1, 7, 0, 0], 0, 0)));
-    assert_eq!(session, started(&RSSI_ONLY, Replies::NotSaid));
+    assert_eq!(session, started(&RSSI_ONLY, Replies::On));
 }
 
 #[test]
@@ -66,7 +66,7 @@ fn all_four_technologies() {
 
 #[test]
 fn unfit_configuration_keeps_the_settings() {
-    let mut session = started(&ALL_FOUR, Replies::NotSaid);
+    let mut session = started(&ALL_FOUR, Replies::On);
     give(&mut session, &CONFIGURATION).unwrap();
     let mut second = CONFIGURATION;
     second[SESSION_ID] = 2;
@@ -108,19 +108,22 @@ fn uwb_after_a_stop() {
 }
 
 #[test]
-fn replies_off() {
-    let mut session = started(&ALL_FOUR, Replies::Off);
-    let answer = session.message(&CONFIGURATION, &mut []).unwrap();
-    assert_eq!((answer.length, answer.set.0, answer.stopped.0), (0, 15, 0));
-    let answer = session.message(&[1, 6, 15, 0], &mut []).unwrap();
-    assert_eq!((answer.length, answer.set.0, answer.stopped.0), (0, 0, 13));
-    assert_eq!(session.advertise(&mut [0; 46]), Err(Refusal::BufferTooShort));
-    assert_eq!(session.advertise(&mut [0; 47]).unwrap().length, 47);
+fn explicit_replies() {
+    for (replies, length) in [(Replies::NotSaid, 0), (Replies::On, 4), (Replies::Off, 0)] {
+        let mut session = started(&ALL_FOUR, replies);
+        let mut out = [0; 47];
+        let answer = session.message(&CONFIGURATION, &mut out[..length]).unwrap();
+        assert_eq!((answer.length, answer.set.0, answer.stopped.0), (length, 15, 0));
+        let answer = session.message(&[1, 6, 15, 0], &mut out[..length]).unwrap();
+        assert_eq!((answer.length, answer.set.0, answer.stopped.0), (length, 0, 13));
+        assert_eq!(session.advertise(&mut out[..46]), Err(Refusal::BufferTooShort));
+        assert_eq!(session.advertise(&mut out).unwrap().length, 47);
+    }
 }
 
 #[test]
 fn refused_calls_change_nothing() {
-    let mut session = started(&ALL_FOUR, Replies::NotSaid);
+    let mut session = started(&ALL_FOUR, Replies::On);
     give(&mut session, &CONFIGURATION).unwrap();
     let before = session.clone();
     let cases: [(&[u8], Refusal); 7] = [
@@ -167,12 +170,14 @@ fn profiles_that_are_not_valid() {
     assert_eq!(raw::start(&profile, 3), refused);
     let mut session = refused.session;
     assert_eq!(session.advertise(&mut [0; 4]).length, 4);
+    // replies are not said
+    assert_eq!(session.message(&[1, 6, 15, 0], &mut []), raw::Answer::default());
 }
 
 #[test]
 fn forged_sessions() {
     let profile = read(&RSSI_ONLY).unwrap();
-    let mut session = raw::start(&profile, 0).session;
+    let mut session = raw::start(&profile, Replies::On as u8).session;
     session.uwb.ranging = 7;
     session.nan.settings.role = 9;
     let answer = session.message(&[1, 6, 15, 0], &mut [0; 4]);

@@ -79,7 +79,7 @@ fn rssi_only() {
     let s = begin(
         b"profile of RSSI only",
         b"\x01\x01\x08\x00\x03\x08\xA1\xA2\xA3\xA4\xA5\xA6",
-        0,
+        1,
     );
     let s = hear(b"Request 09", s, b"\x01\x00\x09\x00");
     let s = hear(
@@ -92,12 +92,11 @@ fn rssi_only() {
 }
 
 // UWB with channel 9, preamble indexes 1 to 4, config IDs 0 and 1, interval 120, slot 2, roles 1 and 2; CS, NAN and RSSI.
-fn full(replies: u8) -> Session {
-    begin(
-        b"profile of all four",
-        b"\x01\x01\x0F\x00\x00\x14\xA1\xA2\x00\x02\x00\x00\x0F\x00\x00\x00\x03\x00\x00\x00\x78\x00\x02\x03\x01\x09\x1E\xB1\xB2\xB3\xB4\xB5\xB6\x02\x06\x07\x00\x02\x03\x03\x08\xC1\xC2\xC3\xC4\xC5\xC6",
-        replies,
-    )
+const ALL_FOUR: [u8; 47] =
+    *b"\x01\x01\x0F\x00\x00\x14\xA1\xA2\x00\x02\x00\x00\x0F\x00\x00\x00\x03\x00\x00\x00\x78\x00\x02\x03\x01\x09\x1E\xB1\xB2\xB3\xB4\xB5\xB6\x02\x06\x07\x00\x02\x03\x03\x08\xC1\xC2\xC3\xC4\xC5\xC6";
+
+fn full() -> Session {
+    begin(b"profile of all four", &ALL_FOUR, 1)
 }
 
 // A Configuration of UWB: session ID, channel and preamble index as given, the rest within the profile.
@@ -112,7 +111,7 @@ fn uwb(name: &[u8], s: Session, id: u8, channel: u8, index: u8) -> Session {
 
 // A second Configuration that is unfit keeps the running settings.
 fn unfit() {
-    let s = full(1);
+    let s = full();
     let s = uwb(b"UWB, preamble index 4", s, 1, 9, 4);
     let s = uwb(b"UWB, preamble index 5", s, 2, 9, 5);
     let s = uwb(b"UWB, channel 5", s, 3, 5, 1);
@@ -123,7 +122,7 @@ fn unfit() {
 
 // After a Stop that ended it, UWB needs its capabilities given out again.
 fn barred() {
-    let s = full(0);
+    let s = full();
     let s = hear(b"Stop of UWB, not ranging", s, b"\x01\x06\x01\x00");
     let s = uwb(b"UWB", s, 1, 9, 1);
     let s = hear(b"Stop of UWB", s, b"\x01\x06\x01\x00");
@@ -139,7 +138,7 @@ fn barred() {
 
 // CS can be set and is never ranging; NAN is periodic only where the profile is.
 fn others() {
-    let s = full(0);
+    let s = full();
     let s = hear(
         b"CS level 4",
         s,
@@ -164,7 +163,7 @@ fn others() {
 }
 
 fn refusals() {
-    let s = full(0);
+    let s = full();
     let s = hear(b"Capability Response", s, b"\x01\x01\x00\x00");
     let s = hear(b"reserved ID", s, b"\x01\x08\x00\x00");
     let mut out = [0u8; 3];
@@ -175,17 +174,19 @@ fn refusals() {
     let mut forged = s;
     forged.mark = 1;
     let s = uwb(b"UWB with a forged mark", forged, 1, 9, 1);
-    begin(b"profile that is not valid", b"\x01\x00\x00\x00", 0);
-    begin(b"reply choice 3", b"\x01\x01\x00\x00", 3);
     hear(b"Request", s, b"\x01\x00\x00\x00");
+    begin(b"reply choice 3", b"\x01\x01\x00\x00", 3);
+    let s = begin(b"profile that is not valid", b"\x01\x00\x00\x00", 1);
+    let s = hear(b"Request after it", s, b"\x01\x00\x0F\x00");
+    hear(b"Stop after it", s, b"\x01\x06\x0F\x00");
 }
 
-// With explicit replies off the sets are returned all the same.
-fn quiet() {
-    let s = full(2);
-    let s = uwb(b"UWB, replies off", s, 1, 9, 1);
-    let s = hear(b"Request for NAN, replies off", s, b"\x01\x00\x04\x00");
-    hear(b"Stop, replies off", s, b"\x01\x06\x0F\x00");
+// Messages 3 and 7 are written with explicit replies on only. The sets are returned all the same.
+fn choice(name: &[u8], replies: u8) {
+    let s = begin(name, &ALL_FOUR, replies);
+    let s = uwb(b"UWB", s, 1, 9, 1);
+    let s = hear(b"Request for NAN", s, b"\x01\x00\x04\x00");
+    hear(b"Stop of all", s, b"\x01\x06\x0F\x00");
 }
 
 pub(crate) fn run() {
@@ -194,5 +195,7 @@ pub(crate) fn run() {
     barred();
     others();
     refusals();
-    quiet();
+    choice(b"replies not said", 0);
+    choice(b"replies on", 1);
+    choice(b"replies off", 2);
 }

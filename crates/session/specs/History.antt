@@ -30,7 +30,7 @@ Never {A} P before (c ∷ later) = ((x : A) → P before c x → ⊥) × Never P
 module _ (p : Profile) where
   -- ---- accepted calls
 
-  -- the octets of the reply to a message: messages 3 and 7 have four, and with explicit replies off there are none
+  -- the octets of the reply to a message: messages 3 and 7 have four, and unless explicit replies are on there are none
   abbrev pub replyLength : Kind → Record → ℕ
   replyLength request r = length (normal (capabilityReply p (names (r .set))))
   replyLength configuration r = cond (explicit (p .replies)) 4 0
@@ -75,7 +75,7 @@ module _ (p : Profile) where
     pub set : (t : Technology) → names (reply .set) t ≡ wanted t && names (p .set) t
     pub fields : (t : Technology) → names (reply .set) t ≡ true → capabilityIn (reply .capability) t ≡ capabilityIn (p .capability) t
 
-  -- an explicit reply that says a set; nothing with explicit replies off
+  -- an explicit reply that says a set; nothing unless explicit replies are on
   abbrev pub saying : SetMessage → ℕ → List ℕ
   saying m set = cond (explicit (p .replies)) (normal (setRecord m set)) []
 

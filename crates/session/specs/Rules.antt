@@ -24,9 +24,9 @@ use Rattle.session.specs.Within.{withinProfile}
 unfoldable pub validProfile : Profile → Bool
 validProfile p = valid (response (p .set) (p .capability)) && ltb (p .replies) 3
 
--- not said means on
+-- not said means off
 abbrev pub explicit : ℕ → Bool
-explicit replies = not (eqb replies 2)
+explicit replies = eqb replies 1
 
 -- ---- calls
 

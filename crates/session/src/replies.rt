@@ -47,7 +47,7 @@ pub(crate) fn deliver(replies: u8, message: SetMessage, set: u16, out: &mut [u8]
     requires { ⌜ set < 16 ⌝ }
     ensures { λ r. ⌜ Delivers (explicitReply replies message set) (now (out .entry)) r (now (out .exit)) ⌝ }
 {
-    if replies == 2 {
+    if replies != 1 {
         return Written {
             refusal: 0,
             length: 0,

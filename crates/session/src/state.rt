@@ -11,7 +11,7 @@ ghost use Rattle.codec.specs.Blocks.{configurations};
 ghost use Rattle.codec.specs.Records.{blank};
 ghost use Rattle.session.specs.Session.{fresh};
 
-// What the tag can do, with the choice of explicit replies: 0 not said, which means on, 1 on, 2 off.
+// What the tag can do, with the choice of explicit replies: 0 not said, which means off, 1 on, 2 off.
 #[repr(C)]
 pub struct Profile {
     pub set: u16,

@@ -45,8 +45,17 @@ pub enum Outcome {
     OneShort(Kind),
     ExactRoom(Kind),
     MoreRoom(Kind),
-    /// Accepted with no room, as replies were off.
-    NoRoomNeeded(Kind),
+    /// Accepted under this choice of replies, and a reply was written or none.
+    Answered {
+        kind: Kind,
+        replies: u8,
+        written: bool,
+    },
+    /// Accepted with no room, as nothing was to be written.
+    NoRoomNeeded {
+        kind: Kind,
+        replies: u8,
+    },
     /// Something was set or stopped.
     Done {
         kind: Kind,
@@ -154,8 +163,16 @@ fn of_kinds() -> Vec<Outcome> {
         due.extend(KINDS.map(of_kind));
     }
     for kind in [Configuration, Stop] {
-        due.push(NoRoomNeeded(kind));
         due.extend((0..3).map(|replies| Done { kind, replies }));
+        due.extend([0, 2].map(|replies| NoRoomNeeded { kind, replies }));
+    }
+    for kind in KINDS {
+        due.extend((0..3).map(|replies| Answered {
+            kind,
+            replies,
+            // messages 3 and 7 with replies on only
+            written: replies == 1 || matches!(kind, Request | Advertisement),
+        }));
     }
     due.extend([false, true].map(|mark| UwbWasNotRanging { mark }));
     for of_kind in [MarkGoes, MarkStaysWithoutRoom, SetAgainAfter, HighMarkGoes] {

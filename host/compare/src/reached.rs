@@ -166,6 +166,8 @@ impl Reached {
 
     fn accepted(&mut self, step: &Step, kind: Kind) {
         let (before, answer) = (step.before, step.answer);
+        let (replies, written) = (before.profile.replies, answer.length != 0);
+        self.count(Answered { kind, replies, written });
         match &step.list.forged {
             None if step.list.fault.is_some() => self.count(ServedWithoutProfile(kind)),
             None => {
@@ -175,13 +177,12 @@ impl Reached {
             Some(_) => {}
         }
         match (answer.length, step.call.room) {
-            (0, 0) => self.count(NoRoomNeeded(kind)),
+            (0, 0) => self.count(NoRoomNeeded { kind, replies }),
             (0, _) => {}
             (length, room) if length == room => self.count(ExactRoom(kind)),
             _ => self.count(MoreRoom(kind)),
         }
         if !(answer.set | answer.stopped).is_empty() {
-            let replies = before.profile.replies;
             self.count(Done { kind, replies });
         }
         match kind {

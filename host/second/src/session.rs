@@ -7,7 +7,7 @@ use crate::refusal::Refusal;
 use crate::valid::{is_capability, is_valid};
 use crate::writer::{write_capability, write_set};
 
-// Choices of explicit replies; not said means on.
+// Choices of explicit replies, messages 3 and 7; not said means off.
 pub const REPLIES_NOT_SAID: u8 = 0;
 pub const REPLIES_ON: u8 = 1;
 pub const REPLIES_OFF: u8 = 2;
@@ -61,7 +61,7 @@ pub fn start(profile: &Record, replies: u8) -> Result<Session, Refusal> {
 }
 
 impl Session {
-    /// The fresh session with an empty profile, replies not said.
+    /// The session of a refused start: fresh, with an empty profile, replies not said and so off.
     pub fn empty() -> Session {
         Session::default()
     }
@@ -159,9 +159,9 @@ impl Session {
         u16::from(self.uwb.on) << UWB | u16::from(self.nan.on) << NAN | u16::from(self.rssi.on) << RSSI
     }
 
-    /// Writes message 3 or 7, unless explicit replies are off.
+    /// Writes message 3 or 7 if explicit replies are on; otherwise nothing.
     fn reply(&self, id: u8, set: u16, out: &mut [u8]) -> Result<usize, Refusal> {
-        if self.profile.replies == REPLIES_OFF {
+        if self.profile.replies != REPLIES_ON {
             return Ok(0);
         }
         write_set(id, set, out)
@@ -262,8 +262,9 @@ mod tests {
         record
     }
 
+    /// A fresh session with explicit replies on.
     fn session(set: u16) -> Session {
-        start(&profile(set), REPLIES_NOT_SAID).unwrap()
+        start(&profile(set), REPLIES_ON).unwrap()
     }
 
     fn octets(record: &Record) -> Vec<u8> {
@@ -272,8 +273,9 @@ mod tests {
         out[..length].to_vec()
     }
 
-    /// Makes a call. If it succeeds, it changes the reply's octets alone, and
-    /// with every shorter buffer it is refused with 11. A refusal changes nothing.
+    /// Makes a call. If it succeeds, it changes the reply's octets alone, a buffer
+    /// of the reply's length is enough, and with every shorter one it is refused
+    /// with 11. A refusal changes nothing.
     fn call(session: &mut Session, message: Option<&[u8]>) -> Result<(Vec<u8>, u16, u16), u8> {
         let run = |session: &mut Session, out: &mut [u8]| match message {
             Some(octets) => session.message(octets, out),
@@ -353,10 +355,6 @@ mod tests {
             Ok((octets(&profile(4)), 0, 0))
         );
         assert_eq!(s, session(15));
-        let mut s = Session::empty();
-        assert_eq!(request(&mut s, 15), [1, 1, 0, 0]);
-        assert_eq!(configure(&mut s, &configuration(15)), 0);
-        assert_eq!(s, Session::empty());
     }
 
     #[test]
@@ -476,15 +474,39 @@ mod tests {
     }
 
     #[test]
-    fn replies_off() {
-        let mut s = start(&profile(15), REPLIES_OFF).unwrap();
-        assert_eq!(call(&mut s, Some(&octets(&configuration(11)))), Ok((Vec::new(), 11, 0)));
-        assert!(s.uwb.on && s.rssi.on && !s.nan.on);
-        assert_eq!(call(&mut s, Some(&[1, 6, 15, 0])), Ok((Vec::new(), 0, 9)));
-        assert!(s.mark);
-        assert_eq!(request(&mut s, 15), octets(&profile(15)));
-        assert!(!s.mark);
-        assert_eq!(s.advertise(&mut [0; 46]), Err(Refusal::ShortBuffer));
+    fn quiet_unless_replies_are_on() {
+        for replies in [REPLIES_NOT_SAID, REPLIES_OFF] {
+            let mut s = start(&profile(15), replies).unwrap();
+            let message = octets(&configuration(11));
+            assert_eq!(call(&mut s, Some(&message)), Ok((Vec::new(), 11, 0)));
+            assert!(s.uwb.on && s.rssi.on && !s.nan.on);
+            assert_eq!(call(&mut s, Some(&[1, 6, 15, 0])), Ok((Vec::new(), 0, 9)));
+            assert!(s.mark && !s.uwb.on && !s.rssi.on);
+            // Nothing set and nothing stopped is quiet too.
+            let message = octets(&configuration(1));
+            assert_eq!(call(&mut s, Some(&message)), Ok((Vec::new(), 0, 0)));
+            assert_eq!(call(&mut s, Some(&[1, 6, 15, 0])), Ok((Vec::new(), 0, 0)));
+            // Capabilities are given out whatever the choice, and need room.
+            assert_eq!(request(&mut s, 15), octets(&profile(15)));
+            assert!(!s.mark);
+            assert_eq!(call(&mut s, None), Ok((octets(&profile(15)), 0, 0)));
+            assert_eq!(s.advertise(&mut [0; 46]), Err(Refusal::ShortBuffer));
+        }
+    }
+
+    #[test]
+    fn refused_start_is_quiet() {
+        // The choice of replies is refused with the profile.
+        let refused = start(&Record::ZERO, REPLIES_ON);
+        assert_eq!(refused, Err(Refusal::NotValid));
+        let mut s = refused.unwrap_or(Session::empty());
+        assert_eq!(s.profile.replies, REPLIES_NOT_SAID);
+        assert_eq!(request(&mut s, 15), [1, 1, 0, 0]);
+        assert_eq!(call(&mut s, None), Ok((vec![1, 1, 0, 0], 0, 0)));
+        let message = octets(&configuration(15));
+        assert_eq!(call(&mut s, Some(&message)), Ok((Vec::new(), 0, 0)));
+        assert_eq!(call(&mut s, Some(&[1, 6, 15, 0])), Ok((Vec::new(), 0, 0)));
+        assert_eq!(s, Session::empty());
     }
 
     #[test]
@@ -516,9 +538,9 @@ mod tests {
     #[test]
     fn profiles_that_are_not_valid() {
         assert_eq!(start(&profile(15), 3), Err(Refusal::NotValid));
-        assert_eq!(start(&configuration(15), 0), Err(Refusal::NotValid));
-        assert_eq!(start(&Record::ZERO, 0), Err(Refusal::NotValid));
-        assert_eq!(start(&profile(0), 0), Ok(Session::empty()));
+        assert_eq!(start(&configuration(15), REPLIES_NOT_SAID), Err(Refusal::NotValid));
+        assert_eq!(start(&Record::ZERO, REPLIES_NOT_SAID), Err(Refusal::NotValid));
+        assert_eq!(start(&profile(0), REPLIES_NOT_SAID), Ok(Session::empty()));
         let changes: [fn(&mut Session); 6] = [
             |s| s.profile.replies = 3,
             |s| s.profile.set |= 0x10,
