@@ -20,7 +20,7 @@
 
 /* The library's version. This is the one place for it: what else says a version reads it here or is tested against it. */
 #define RAYDULCIMER_VERSION_MAJOR 0
-#define RAYDULCIMER_VERSION_MINOR 1
+#define RAYDULCIMER_VERSION_MINOR 2
 
 #ifdef __cplusplus
 extern "C" {

@@ -170,7 +170,7 @@ fn profiles_that_are_not_valid() {
     assert_eq!(raw::start(&profile, 3), refused);
     let mut session = refused.session;
     assert_eq!(session.advertise(&mut [0; 4]).length, 4);
-    // replies are not said
+    // its replies are not said, so off
     assert_eq!(session.message(&[1, 6, 15, 0], &mut []), raw::Answer::default());
 }
 

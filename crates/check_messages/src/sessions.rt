@@ -176,6 +176,7 @@ fn refusals() {
     let s = uwb(b"UWB with a forged mark", forged, 1, 9, 1);
     hear(b"Request", s, b"\x01\x00\x00\x00");
     begin(b"reply choice 3", b"\x01\x01\x00\x00", 3);
+    // its choice of replies is refused with it
     let s = begin(b"profile that is not valid", b"\x01\x00\x00\x00", 1);
     let s = hear(b"Request after it", s, b"\x01\x00\x0F\x00");
     hear(b"Stop after it", s, b"\x01\x06\x0F\x00");

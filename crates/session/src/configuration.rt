@@ -57,7 +57,7 @@ fn eligible_rssi(s: Session, h: Heard, m: &[u8]) -> bool
     both_have(h.set, s.profile.set, RSSI)
 }
 
-// What a Configuration sets, which is all that is eligible, and message 3.
+// What a Configuration sets, which is all that is eligible, and message 3 with replies on.
 pub(crate) fn configure(s: Session, h: Heard, m: &[u8], out: &mut [u8]) -> Answer
     ensures { λ r. ⌜ Answers (conclude (now (out .entry)) (configure onSession (s .profile) (h .set) (settingsAt h (now (m .entry))) s)) (now (out .entry)) r (now (out .exit)) ⌝ }
 {

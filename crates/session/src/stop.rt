@@ -13,7 +13,7 @@ ghost use Rattle.session.specs.Rules.{conclude, halt};
 ghost use Rattle.session.specs.Session.{onSession};
 ghost use Rattle.session.specs.Inner.Replies.{Answers};
 
-// The technologies named that are ranging, and message 7.
+// The technologies named that are ranging, and message 7 with replies on.
 pub(crate) fn halt(s: Session, set: u16, out: &mut [u8]) -> Answer
     ensures { λ r. ⌜ Answers (conclude (now (out .entry)) (halt onSession (s .profile) set s)) (now (out .entry)) r (now (out .exit)) ⌝ }
 {
