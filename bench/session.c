@@ -1,4 +1,5 @@
-/* Measures a call of a session with all four technologies and explicit replies on, by the proved library or by the second implementation.
+/* Measures a call of a session with all four technologies and explicit replies on, by the proved library or by the second
+   implementation.
 
    session call proved|second CALL     makes the call once, for callgrind to count its instructions
    session stack proved|second CALL    prints how many octets of stack the call used, beside its arguments and result

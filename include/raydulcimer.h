@@ -319,8 +319,8 @@ struct raydulcimer_started raydulcimer_start(struct raydulcimer_record profile, 
 /* Gives a session a message and a buffer for the reply. Tested in this order: the session's profile
    (RAYDULCIMER_NOT_VALID), the message as raydulcimer_read does, that it is a Request, a Configuration or a Stop
    (RAYDULCIMER_NOT_FOR_TAG), and that the reply fits the buffer (RAYDULCIMER_BUFFER_TOO_SHORT). A refused call leaves session and
-   buffer as they were; otherwise only the reply's own octets change in the buffer. With explicit replies off,
-   or not said, a Configuration or a Stop is answered with length 0, and with its set all the same.
+   buffer as they were; otherwise only the reply's own octets change in the buffer. With explicit replies off, or
+   not said, a Configuration or a Stop is answered with length 0, and with its set all the same.
 
    A Request is answered with the blocks that it names and the profile has. A Configuration sets each technology that it
    names and the profile has, with settings within the profile, and, for UWB, with the mark not standing; what is not set goes
