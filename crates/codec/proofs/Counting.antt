@@ -11,12 +11,12 @@ use lib.Dec.{eqb}
 use lib.ListN.{length, getD}
 use lib.Pow.{shr-shr}
 use lib.Count.{ones, ones-step}
-use borrow.Author.Tests.{eqb-true, eq-eqb, ne-eqb}
+use borrow.Author.Tests.{eqb-true, eqb-false, eq-eqb, ne-eqb, not-true}
 use Rattle.codec.specs.Technology.{bit}
 use Rattle.codec.specs.Layout.{Layout}
 use Rattle.codec.specs.WellFormed.{Whole, Each, Once, Has, this, later}
-use Rattle.codec.proofs.Outcomes.{by-bool}
-use Rattle.codec.proofs.Bits.{bit-under}
+use Rattle.codec.proofs.Outcomes.{by-bool, and-true}
+use Rattle.codec.proofs.Bits.{by-digit, bit-under}
 
 abbrev pub one : Bool → ℕ
 one true = 1
@@ -28,12 +28,7 @@ count zero id p = 0
 count (suc n) id p = one (p id) + count n (suc id) p
 
 one-bit : (s i : ℕ) → one (bit s i) ≡ s / 2 ^ i % 2
-one-bit s i = go (s / 2 ^ i % 2) (omega arith)
-  where
-    go : (x : ℕ) → x < 2 → one (eqb x 1) ≡ x
-    go zero h = refl
-    go (suc zero) h = refl
-    go (suc (suc x)) h = absurd (omega arith)
+one-bit s i = by-digit (λ x. one (eqb x 1) ≡ x) refl refl (s / 2 ^ i)
 
 half : (s i : ℕ) → s / 2 ^ i / 2 ≡ s / 2 ^ suc i
 half s i = shr-shr s i 1 ∙ ap (λ (j : ℕ). s / 2 ^ j) (add-one i)
@@ -58,6 +53,9 @@ without old may id = not (eqb id old) && may id
 
 without-other : (old : ℕ) (may : ℕ → Bool) (id : ℕ) → (id ≡ old → ⊥) → without old may id ≡ may id
 without-other old may id h = rw (ne-eqb id old h)
+
+without-only : (old : ℕ) (may : ℕ → Bool) (id : ℕ) → without old may id ≡ true → (id ≡ old → ⊥) × (may id ≡ true)
+without-only old may id e = let r = and-true (not (eqb id old)) (may id) e in (eqb-false id old (not-true _ (r .0)), r .1)
 
 count-cong : (k lo : ℕ) (p q : ℕ → Bool) → ((j : ℕ) → lo ≤ j → p j ≡ q j) → count k lo p ≡ count k lo q
 count-cong zero lo p q h = refl
@@ -86,11 +84,19 @@ count-none (suc k) lo may e j a b =
     here true e = absurd (omega arith)
     here false e = refl
 
+count-no : (k lo : ℕ) (may : ℕ → Bool) → ((j : ℕ) → may j ≡ false) → count k lo may ≡ 0
+count-no zero lo may h = refl
+count-no (suc k) lo may h = rw (h lo, count-no k (suc lo) may h)
+
 -- ---- the block of an ID
 
 pub has-some : (id : ℕ) (blocks : List (List ℕ)) → Has id blocks → 0 < length blocks
 has-some id (b ∷ blocks) (this e) = omega arith
 has-some id (b ∷ blocks) (later h) = omega arith
+
+pub has-later : (id : ℕ) (b : List ℕ) (blocks : List (List ℕ)) → (getD b 0 0 ≡ id → ⊥) → Has id (b ∷ blocks) → Has id blocks
+has-later id b blocks n (this e) = absurd (n e)
+has-later id b blocks n (later r) = r
 
 each-without : (old : ℕ) (may : ℕ → Bool) (blocks : List (List ℕ)) → Each (λ c. getD c 0 0 ≡ old → ⊥) blocks → Each (λ b. may (getD b 0 0) ≡ true) blocks
     → Each (λ b. without old may (getD b 0 0) ≡ true) blocks
@@ -107,6 +113,19 @@ all-there k may (b ∷ blocks) h u o e id l m =
     (λ n.
     let c = count-without k 0 (getD b 0 0) may (omega arith) (omega (arith, u .0)) (h .0) in
     later (all-there k (without (getD b 0 0) may) blocks (each-without (getD b 0 0) may blocks (o .0) (h .1)) (u .1) (o .1) (omega (arith, c)) id l (rw (n, m))))
+
+-- blocks with all IDs that pass are at least as many
+pub no-fewer : (k : ℕ) (may : ℕ → Bool) (blocks : List (List ℕ)) → ((id : ℕ) → may id ≡ true → id < k) → ((id : ℕ) → may id ≡ true → Has id blocks) → count k 0 may ≤ length blocks
+no-fewer k may [] u h = omega (arith, count-no k 0 may (λ id. by-bool (may id) (λ y. absurd (omega (arith, has-some id [] (h id y)))) (λ n. n)))
+no-fewer k may (b ∷ blocks) u h =
+    let old = getD b 0 0 in
+    by-bool (may old)
+    (λ y.
+    let r = no-fewer k (without old may) blocks (λ id e. u id (without-only old may id e .1)) (λ id e. let o = without-only old may id e in has-later id b blocks (λ d. o .0 (sym d)) (h id (o .1))) in
+    omega (arith, r, count-without k 0 old may (omega arith) (omega (arith, u old y)) y))
+    (λ n.
+    let r = no-fewer k may blocks u (λ id y. has-later id b blocks (λ d. let z : _≡_ {A = ℕ} 0 1 = cc in absurd (omega arith)) (h id y)) in
+    omega (arith, r))
 
 -- as many whole blocks as the set has bits, no ID twice: each bit has one
 module _ (layouts : ℕ → Layout) (set : ℕ) (small : set < 65536) where

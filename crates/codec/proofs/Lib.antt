@@ -12,6 +12,7 @@ pub mod Counting
 pub mod Risings
 pub mod WalkCases
 pub mod Walks
+pub mod MetIds
 pub mod Rows
 pub mod MessageCases
 pub mod ValidCases

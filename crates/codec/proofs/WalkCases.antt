@@ -4,19 +4,20 @@ use native.Mathlib.Omega.{arith}
 use native.Mathlib.Numerals.{sub-one}
 use native.Mathlib.Nat.{add-zero}
 use mathlib.Core.Path.{_≡_, refl, sym, ap, _∙_}
-use mathlib.Core.Bool.{Bool, true, false, not, _&&_, _||_, and-true}
+use mathlib.Core.Bool.{Bool, true, not, _&&_}
 use mathlib.Core.List.{List}
-use lib.Dec.{leb, eqb}
+use lib.Dec.{leb}
 use lib.ListN.{length, getD, drop, set, length-set}
 use lib.Seq.{getD-take, getD-drop, getD-set-same}
 use borrow.Author.Tests.{le-leb, leb-true}
-use Rattle.codec.specs.Refusal.{Checked, refuse, accept, demand, andThen, endsEarly, wrongBlock, blockTooSmall}
+use Rattle.codec.specs.Refusal.{Checked, refuse, accept, andThen, endsEarly, wrongBlock, blockTooSmall}
 use Rattle.codec.specs.Layout.{Layout, least, fault}
 use Rattle.codec.specs.Technology.{bit}
-use Rattle.codec.specs.Message.{blockAt, placeAfter, noId, also, blockFault, Walked, prepend, walk}
-use Rattle.codec.specs.Inner.Places.{numberIn, sizeFault, layoutFault, fieldsFault, awaitedFault, Awaits, note, noted, Finds, FindsLeft}
+use Rattle.codec.specs.Blocks.{Column, layouts}
+use Rattle.codec.specs.Message.{setOf, blockAt, placeAfter, also, blockFault, Walked, prepend, walk}
+use Rattle.codec.specs.Inner.Places.{numberIn, sizeFault, layoutFault, fieldsFault, idFault, note, noted, Finds, FindsLeft}
 use Rattle.codec.proofs.Laws.{part-length}
-use Rattle.codec.proofs.Outcomes.{by-bool, by-number, demanded, demand-stop}
+use Rattle.codec.proofs.Outcomes.{by-number, demanded, demand-stop}
 use Rattle.codec.proofs.Layouts.{least-from}
 
 -- ---- a block's size, and then its fields by a layout
@@ -54,28 +55,14 @@ module _ (L : Layout) (m : List ℕ) (at : ℕ) where
 
 -- ---- one turn of the walk
 
--- before the first block all IDs in the set are awaited
-pub awaits-all : (set : ℕ) → Awaits set noId set
-awaits-all set id = sym (and-true (bit set id))
-
--- and past a block all but its ID
-awaits-next : (set : ℕ) (came : ℕ → Bool) (new awaited rest : ℕ) → Awaits set came awaited → ((id : ℕ) → bit rest id ≡ (bit awaited id && not (eqb id new))) → Awaits set (also new came) rest
-awaits-next set came new awaited rest w r id = r id ∙ rw (w id) (go (bit set id) (came id) (eqb id new))
-  where
-    go : (a b c : Bool) → ((a && not b) && not c) ≡ (a && not (c || b))
-    go false b c = refl
-    go true b true = (by-bool (not b) (λ y. rw y) (λ n. rw n))
-    go true true false = refl
-    go true false false = refl
+abbrev mayCome : ℕ → List ℕ → (ℕ → Bool) → ℕ → Bool
+mayCome set m came at = bit set (getD m at 0) && not (came (getD m at 0))
 
 module _ (layouts : ℕ → Layout) (set₀ : ℕ) (m : List ℕ) (came : ℕ → Bool) (at : ℕ) where
-  abbrev mayCome : Bool
-  mayCome = bit set₀ (getD m at 0) && not (came (getD m at 0))
-
   -- what a block without a fault says
   pub record Sound : Type 0 where
     pub two : at + 2 ≤ length m
-    pub comes : mayCome ≡ true
+    pub comes : mayCome set₀ m came at ≡ true
     pub enough : least (layouts (getD m at 0)) 2 ≤ getD m (at + 1) 0
     pub whole : at + getD m (at + 1) 0 ≤ length m
     pub fields : fault (layouts (getD m at 0)) 2 (blockAt m at) ≡ accept tt
@@ -86,7 +73,7 @@ module _ (layouts : ℕ → Layout) (set₀ : ℕ) (m : List ℕ) (came : ℕ �
   unfolding blockFault
   sound e =
       demanded (leb (at + 2) (length m)) endsEarly _ tt e λ y₁ e₁.
-      demanded mayCome wrongBlock _ tt e₁ λ y₂ e₂.
+      demanded (mayCome set₀ m came at) wrongBlock _ tt e₁ λ y₂ e₂.
       demanded (leb (least (layouts (getD m at 0)) 2) (getD m (at + 1) 0)) blockTooSmall _ tt e₂ λ y₃ e₃.
       demanded (leb (at + getD m (at + 1) 0) (length m)) endsEarly _ tt e₃ λ y₄ e₄.
       let enough = leb-true _ _ y₃ in
@@ -127,52 +114,46 @@ module _ (layouts : ℕ → Layout) (set₀ : ℕ) (m : List ℕ) (came : ℕ �
           let e : noted (prepend (blockAt m at) w .blocks) at found ≡ noted (w .blocks) (at + getD m (at + 1) 0) (note (getD m at 0) at found) = λ i. noted (w .blocks) (at + s .size i) (note (s .first i) at found) in
           (h .0, h .1 ∙ sym e, h .2)
 
--- ---- one turn of the walk, by the IDs that are awaited: for any layouts
+-- ---- one turn of the walk, by the number with a bit for each ID met
 
-module _ (m : List ℕ) (at awaited : ℕ) where
+module _ (m : List ℕ) (at met : ℕ) where
   -- what the head of a block without a fault says
   pub record Headed : Type 0 where
     pub two : at + 2 ≤ length m
-    pub comes : bit awaited (getD m at 0) ≡ true
+    pub comes : mayCome (setOf m) m (bit met) at ≡ true
 
-  pub headed : {f : ℕ} → f ≡ numberIn (awaitedFault awaited m at) → f ≡ 0 → Headed
-  headed e z =
-      by-number (awaitedFault awaited m at) (sym e ∙ z) λ u a.
-      demanded (leb (at + 2) (length m)) endsEarly _ u a λ p b.
-      demanded (bit awaited (getD m at 0)) wrongBlock _ u b λ q d.
-      record { two = leb-true _ _ p; comes = q }
+  module _ {f : ℕ} (e : f ≡ numberIn (idFault (setOf m) met m at)) where
+    pub headed : f ≡ 0 → Headed
+    headed z =
+        by-number (idFault (setOf m) met m at) (sym e ∙ z) λ u a.
+        demanded (leb (at + 2) (length m)) endsEarly _ u a λ p b.
+        demanded (mayCome (setOf m) m (bit met) at) wrongBlock _ u b λ q d.
+        record { two = leb-true _ _ p; comes = q }
 
-  module _ (layouts : ℕ → Layout) where
-    abbrev awaitedBlock : Checked (Unit {0})
-    awaitedBlock = demand (leb (at + 2) (length m)) endsEarly (demand (bit awaited (getD m at 0)) wrongBlock (fieldsFault layouts m at))
+    pub head-stop : (k : Column) → (f ≡ 0 → ⊥) → f ≡ numberIn (blockFault (layouts k) (setOf m) m (bit met) at)
+    unfolding blockFault
+    head-stop k h = demand-stop (leb (at + 2) (length m)) endsEarly _ _ (demand-stop (mayCome (setOf m) m (bit met) at) wrongBlock _ _ (λ z. absurd (h z))) e
 
-    module _ (left : ℕ) (found : List ℕ) where
-      pub turn-none : left ≡ 0 → length found ≡ 5 → FindsLeft layouts m at left awaited found 0 (set found 4 at)
-      unfolding walk
-      turn-none z l = record { finds = λ s came w. rw z (refl, refl, getD-set-same found 4 at 0 (omega arith)); size = length-set found 4 at ∙ l }
+  pub head-next : (k : Column) → Headed → {f : ℕ} → f ≡ numberIn (fieldsFault (layouts k) m at) → f ≡ numberIn (blockFault (layouts k) (setOf m) m (bit met) at)
+  unfolding blockFault
+  head-next k d e = rw (le-leb (at + 2) (length m) (d .two), d .comes) e
 
-      module _ (some : left ≡ 0 → ⊥) where
-        -- the fault of a block does not depend on how the IDs that came are kept
-        stop : {f : ℕ} → f ≡ numberIn awaitedBlock → (f ≡ 0 → ⊥) → length found ≡ 5 → FindsLeft layouts m at left awaited found f found
-        unfolding blockFault
-        stop {f} e h l = record { finds = λ s came w. find-stop layouts s m came at left f found found some (rw (w (getD m at 0)) at e) h; size = l }
+module _ (k : Column) (m : List ℕ) (at left met : ℕ) (found : List ℕ) (all : left ≡ 0 → met ≡ setOf m) where
+  pub turn-none : left ≡ 0 → length found ≡ 5 → FindsLeft k m at left met found 0 (set found 4 at)
+  unfolding walk
+  turn-none z l = record { finds = rw z (refl, refl, getD-set-same found 4 at 0 (omega arith)); all = all; size = length-set found 4 at ∙ l }
 
-        pub turn-head : {f : ℕ} → f ≡ numberIn (awaitedFault awaited m at) → (f ≡ 0 → ⊥) → length found ≡ 5 → FindsLeft layouts m at left awaited found f found
-        turn-head e h = stop (demand-stop (leb (at + 2) (length m)) endsEarly _ _ (demand-stop (bit awaited (getD m at 0)) wrongBlock _ _ (λ z. absurd (h z))) e) h
+  module _ (some : left ≡ 0 → ⊥) {f : ℕ} (e : f ≡ numberIn (blockFault (layouts k) (setOf m) m (bit met) at)) where
+    pub turn-stop : (f ≡ 0 → ⊥) → length found ≡ 5 → FindsLeft k m at left met found f found
+    turn-stop h l = record { finds = find-stop (layouts k) (setOf m) m (bit met) at left f found found some e h; all = all; size = l }
 
-        module _ (d : Headed) {g : ℕ} (e : g ≡ numberIn (fieldsFault layouts m at)) where
-          fields : g ≡ numberIn awaitedBlock
-          fields = rw (le-leb (at + 2) (length m) (d .two), d .comes) e
-
-          pub turn-fields : (g ≡ 0 → ⊥) → length found ≡ 5 → FindsLeft layouts m at left awaited found g found
-          turn-fields = stop fields
-
-          pub turn-next : g ≡ 0 → {rest : ℕ} → ((id : ℕ) → bit rest id ≡ (bit awaited id && not (eqb id (getD m at 0)))) → {f : ℕ} {after : List ℕ}
-              → FindsLeft layouts m (placeAfter m at) (left - 1) rest (note (getD m at 0) at found) f after → FindsLeft layouts m at left awaited found f after
-          unfolding blockFault
-          turn-next z {rest} r {f} {after} h = record {
-            finds = λ s came w.
-                by-number (blockFault layouts s m came at) (sym (rw (w (getD m at 0)) at fields) ∙ z) λ u a.
-                find-next layouts s m came at left f found after some (sound layouts s m came at a) a (h .finds s (also (getD m at 0) came) (awaits-next s came (getD m at 0) awaited rest w r));
-            size = h .size;
-          }
+    pub turn-next : f ≡ 0 → {more : ℕ} → ((id : ℕ) → bit more id ≡ also (getD m at 0) (bit met) id) → {g : ℕ} {after : List ℕ}
+        → FindsLeft k m (placeAfter m at) (left - 1) more (note (getD m at 0) at found) g after → FindsLeft k m at left met found g after
+    turn-next z {more} b {g} {after} h = record {
+      finds =
+          by-number (blockFault (layouts k) (setOf m) m (bit met) at) (sym e ∙ z) λ u a.
+          let came : bit more ≡ also (getD m at 0) (bit met) = λ i id. b id i in
+          find-next (layouts k) (setOf m) m (bit met) at left g found after some (sound (layouts k) (setOf m) m (bit met) at a) a (rw came at (h .finds));
+      all = all;
+      size = h .size;
+    }

@@ -1,10 +1,11 @@
 // Technologies by their IDs, and sets of them: a 16-bit number with bit n for ID n.
 ghost use mathlib.Core.Path.{_≡_};
-ghost use mathlib.Core.Bool.{true, _&&_, not, cond};
+ghost use mathlib.Core.Bool.{_&&_, not, cond};
 ghost use mathlib.Core.List.{[], _∷_};
 ghost use Prim.Native.Nat.{ℕ, _<_, _≤_};
-ghost use lib.Dec.{eqb, leb};
+ghost use lib.Dec.{leb};
 ghost use Rattle.codec.specs.Technology.{bit, ofBits, naming, inBoth};
+ghost use Rattle.codec.specs.Message.{also};
 
 pub const UWB: u8 = 0;
 
@@ -42,12 +43,19 @@ pub fn has_bit(bits: u32, n: u8) -> bool
     false
 }
 
-// A number without bit n, which it has.
-pub(crate) fn without(bits: u32, n: u8) -> u32
-    requires { ⌜ bit bits n ≡ true ⌝ }
-    ensures { λ r. ⌜ ((j : ℕ) → bit r j ≡ (bit bits j && not (eqb j n))) ⌝ }
+// The IDs of a set that are not among those met.
+pub(crate) fn unmet(set: u16, met: u16) -> u32
+    ensures { λ r. ⌜ ((id : ℕ) → bit r id ≡ (bit set id && not (bit met id))) ⌝ }
 {
-    bits ^ (1 << n)
+    (set as u32) & !(met as u32)
+}
+
+// The IDs met and one more.
+pub(crate) fn meet(met: u16, new: u8) -> u16
+    requires { ⌜ new < 16 ⌝ }
+    ensures { λ r. ⌜ ((id : ℕ) → bit r id ≡ also new (bit met) id) ⌝ }
+{
+    met | (1 << new)
 }
 
 // A set, or none.

@@ -5,25 +5,27 @@ use crate::refusal::ENDS_EARLY;
 use crate::refusal::WRONG_BLOCK;
 use crate::technology::RESERVED;
 use crate::technology::has_bit;
-use crate::technology::without;
+use crate::technology::meet;
+use crate::technology::unmet;
 use crate::walker::next_place;
 ghost use mathlib.Core.Path.{_≡_};
 ghost use Prim.Native.Nat.{_+_, _≤_};
 ghost use lib.ListN.{length, getD};
-ghost use Rattle.codec.specs.Blocks.{capabilities, configurations, layouts};
+ghost use Rattle.codec.specs.Blocks.{capabilities, configurations};
 ghost use Rattle.codec.specs.Table.{messageLimit};
-ghost use Rattle.codec.specs.Message.{placeAfter};
-ghost use Rattle.codec.specs.Inner.Places.{numberIn, awaitedFault, note, FindsLeft};
+ghost use Rattle.codec.specs.Message.{setOf, placeAfter};
+ghost use Rattle.codec.specs.Inner.MetIds.{Met};
+ghost use Rattle.codec.specs.Inner.Places.{numberIn, idFault, note, FindsLeft};
 
-// The first fault in the head of the block at a place, 0 for none. `awaited` has a bit for each ID in the set that has not come yet.
-fn awaited_fault(m: &[u8], at: usize, awaited: u32) -> u8
+// The first fault in the head of the block at a place, 0 for none. An ID is wrong that has no bit in the set or was met before.
+fn id_fault(m: &[u8], at: usize, set: u16, met: u16) -> u8
     requires { ⌜ at ≤ length (now m) ⌝ }
-    ensures { λ f. ⌜ f ≡ numberIn (awaitedFault awaited (now (m .entry)) at) ⌝ }
+    ensures { λ f. ⌜ f ≡ numberIn (idFault set met (now (m .entry)) at) ⌝ }
 {
     if m.len() - at < 2 {
         return ENDS_EARLY;
     }
-    if !has_bit(awaited, m[at]) {
+    if !has_bit(unmet(set, met), m[at]) {
         return WRONG_BLOCK;
     }
     0
@@ -45,23 +47,24 @@ fn pass(m: &[u8], at: usize, found: &mut [u16; 5]) -> usize
 }
 
 // The first fault of the blocks of message 1 that are left, from a place on. For none it is 0, and `found` has the places of the known
-// technologies' blocks and the place after the last block. The message is behind a second reference, so that the compiler makes
-// a loop of the recursion.
+// technologies' blocks and the place after the last block. Of the IDs it keeps one number, with a bit for each that was met: no block
+// is left exactly when they are the set. The message is behind a second reference, so that the compiler makes a loop of the recursion.
 pub(crate) fn walk_capabilities(
     m: &&[u8],
     at: usize,
     left: u32,
-    awaited: u32,
+    set: u16,
+    met: u16,
     found: &mut [u16; 5],
 ) -> u8
-    requires { ⌜ (length (now (now m)) ≤ messageLimit) × (at ≤ length (now (now m))) × (length (now found) ≡ 5) ⌝ }
-    ensures { λ f. ⌜ FindsLeft (layouts capabilities) (now (now (m .entry))) at left awaited (now (found .entry)) f (now (found .exit)) ⌝ }
+    requires { ⌜ (length (now (now m)) ≤ messageLimit) × (at ≤ length (now (now m))) × (length (now found) ≡ 5) × (set ≡ setOf (now (now m))) × Met capabilities (now (now m)) at left met ⌝ }
+    ensures { λ f. ⌜ FindsLeft capabilities (now (now (m .entry))) at left met (now (found .entry)) f (now (found .exit)) ⌝ }
 {
-    if left == 0 {
+    if unmet(set, met) == 0 {
         found[4] = at as u16;
         return 0;
     }
-    let head = awaited_fault(*m, at, awaited);
+    let head = id_fault(*m, at, set, met);
     if head != 0 {
         return head;
     }
@@ -69,9 +72,9 @@ pub(crate) fn walk_capabilities(
     if fault != 0 {
         return fault;
     }
-    let rest = without(awaited, m[at]);
+    let more = meet(met, m[at]);
     let next = pass(*m, at, found);
-    walk_capabilities(m, next, left - 1, rest, found)
+    walk_capabilities(m, next, left - 1, set, more, found)
 }
 
 // The same of message 2.
@@ -79,17 +82,18 @@ pub(crate) fn walk_configurations(
     m: &&[u8],
     at: usize,
     left: u32,
-    awaited: u32,
+    set: u16,
+    met: u16,
     found: &mut [u16; 5],
 ) -> u8
-    requires { ⌜ (length (now (now m)) ≤ messageLimit) × (at ≤ length (now (now m))) × (length (now found) ≡ 5) ⌝ }
-    ensures { λ f. ⌜ FindsLeft (layouts configurations) (now (now (m .entry))) at left awaited (now (found .entry)) f (now (found .exit)) ⌝ }
+    requires { ⌜ (length (now (now m)) ≤ messageLimit) × (at ≤ length (now (now m))) × (length (now found) ≡ 5) × (set ≡ setOf (now (now m))) × Met configurations (now (now m)) at left met ⌝ }
+    ensures { λ f. ⌜ FindsLeft configurations (now (now (m .entry))) at left met (now (found .entry)) f (now (found .exit)) ⌝ }
 {
-    if left == 0 {
+    if unmet(set, met) == 0 {
         found[4] = at as u16;
         return 0;
     }
-    let head = awaited_fault(*m, at, awaited);
+    let head = id_fault(*m, at, set, met);
     if head != 0 {
         return head;
     }
@@ -97,7 +101,7 @@ pub(crate) fn walk_configurations(
     if fault != 0 {
         return fault;
     }
-    let rest = without(awaited, m[at]);
+    let more = meet(met, m[at]);
     let next = pass(*m, at, found);
-    walk_configurations(m, next, left - 1, rest, found)
+    walk_configurations(m, next, left - 1, set, more, found)
 }

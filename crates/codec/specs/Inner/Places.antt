@@ -10,7 +10,7 @@ use Rattle.codec.specs.Octets.{Octets}
 use Rattle.codec.specs.Refusal.{Checked, refuse, accept, demand, numberOf, tooLong, endsEarly, reservedId, wrongBlock, blockTooSmall}
 use Rattle.codec.specs.Technology.{Technology, uwb, cs, nan, rssi, technologyId, technologies, bit, known, names}
 use Rattle.codec.specs.Layout.{Layout, number, octets, counted, Values, zeroes, value, least, fault}
-use Rattle.codec.specs.Blocks.{Column, capabilities, configurations, cell}
+use Rattle.codec.specs.Blocks.{Column, capabilities, configurations, cell, layouts}
 use Rattle.codec.specs.Table.{messageLimit, assigned, messageOf, Row}
 use Rattle.codec.specs.Records.{StructOf, make, blank, accepted, answer}
 use Rattle.codec.specs.Message.{Walked, walk, idOf, setOf, blockAt, parse, reading}
@@ -50,9 +50,11 @@ headFault m =
 
 -- ---- one block
 
--- its head: both octets there, and the ID is one in the set that has not come yet
-abbrev pub awaitedFault : ℕ → List ℕ → ℕ → Checked (Unit {0})
-awaitedFault awaited m at = demand (leb (at + 2) (length m)) endsEarly (demand (bit awaited (getD m at 0)) wrongBlock (accept tt))
+-- its head: both octets there, and the ID has a bit in the set and was not met
+abbrev pub idFault : ℕ → ℕ → List ℕ → ℕ → Checked (Unit {0})
+idFault set met m at =
+    let id = getD m at 0 in
+    demand (leb (at + 2) (length m)) endsEarly (demand (bit set id && not (bit met id)) wrongBlock (accept tt))
 
 -- its size, and then what is next
 abbrev pub sized : ℕ → List ℕ → ℕ → Checked (Unit {0}) → Checked (Unit {0})
@@ -68,10 +70,6 @@ layoutFault L m at = sized (least L 2) m at (fault L 2 (blockAt m at))
 -- by the layout of its ID
 abbrev pub fieldsFault : (ℕ → Layout) → List ℕ → ℕ → Checked (Unit {0})
 fieldsFault layouts m at = layoutFault (layouts (getD m at 0)) m at
-
--- `awaited` has the IDs in the set that have not come yet
-abbrev pub Awaits : ℕ → (ℕ → Bool) → ℕ → Type 0
-Awaits set came awaited = (id : ℕ) → bit awaited id ≡ (bit set id && not (came id))
 
 -- ---- five numbers: the place of each known technology's block, and the place after the last block
 
@@ -95,9 +93,10 @@ abbrev pub Finds : Checked Walked → ℕ → List ℕ → ℕ → List ℕ → 
 Finds (refuse x) at found f left = f ≡ numberOf x
 Finds (accept w) at found f left = (f ≡ 0) × (left ≡ noted (w .blocks) at found) × (getD left 4 0 ≡ w .end)
 
--- of the blocks that are left from a place on, whatever came before them
-pub record FindsLeft (layouts : ℕ → Layout) (m : List ℕ) (at left awaited : ℕ) (found : List ℕ) (f : ℕ) (after : List ℕ) : Type 0 where
-  pub finds : (set : ℕ) (came : ℕ → Bool) → Awaits set came awaited → Finds (walk layouts set m left came at) at found f after
+-- of the blocks that are left from a place on, after those whose IDs were met; when none is left, those met are the set
+pub record FindsLeft (k : Column) (m : List ℕ) (at left met : ℕ) (found : List ℕ) (f : ℕ) (after : List ℕ) : Type 0 where
+  pub finds : Finds (walk (layouts k) (setOf m) m left (bit met) at) at found f after
+  pub all : left ≡ 0 → met ≡ setOf m
   pub size : length after ≡ 5
 
 -- a message that carries a set alone, and one with blocks

@@ -1,9 +1,11 @@
 use Rattle.codec.proofs.MessageCases.{judged-refused, body-unread, body-short, body-sets, body-stop, body-end}
+use Rattle.codec.proofs.MetIds.{met-none}
+use Rattle.codec.specs.Blocks.{configurations}
 use Rattle.codec.specs.Table.{readable, row}
 use Rattle.codec.specs.Message.{versionOf, idOf, setsAgree}
 use borrow.Author.Tests.{eq-eqb, ne-eqb}
 use mathlib.Core.Bool.{true}
-use mathlib.Core.Path.{_≡_, sym, ap, _∙_}
+use mathlib.Core.Path.{_≡_, refl, sym, ap, _∙_}
 use Rattle.codec.proofs.Laws.{failed, passed}
 use native.Mathlib.Omega.{arith}
 use borrow.Author.Needs.{needs}
@@ -29,12 +31,17 @@ returns-3 c = let s = c .before .before .before .before .before .before .before 
     (λ e. omega arith)
     (s .3)
 
+walk-configurations-requires : tie.Need-walk-configurations-requires
+walk-configurations-requires c κs =
+    let s = c .before .before .before .before .before .before .before .before .before .before .before .pre in
+    rw (c .before .before .before .before .u16-at .ensures) (s .1, c .before .before .before .before .before .if2 .left, s .3, refl, met-none configurations _)
+
 returns-4 : tie.Need-returns-4
-returns-4 c = body-stop _ (read (c .before .before .before .before .before .before .before .before)) (row 2) (ap row (c .before .before .before .before .before .before .before .before .before .before .before .before .before .pre .2)) (c .before .before .before .before .before .before .before .if2 .left) (agree (c .before .before .before .before)) (rw (c .before .before .before .before .before .before .u16-at .ensures) at (c .before .walk-configurations .ensures)) (c .if4 .taken)
+returns-4 c = body-stop _ (read (c .before .before .before .before .before .before .before .before)) (row 2) (ap row (c .before .before .before .before .before .before .before .before .before .before .before .before .before .pre .2)) (c .before .before .before .before .before .before .before .if2 .left) (agree (c .before .before .before .before)) configurations refl (rw (c .before .before .before .before .before .before .u16-at .ensures) at (c .before .walk-configurations .ensures)) (c .if4 .taken)
 
 returns-5 : tie.Need-returns-5
 returns-5 c =
-    body-end _ (read (c .before .before .before .before .before .before .before .before .before .before .before)) (row 2) (ap row (c .before .before .before .before .before .before .before .before .before .before .before .before .before .before .before .before .pre .2)) (c .before .before .before .before .before .before .before .before .before .before .if2 .left) (agree (c .before .before .before .before .before .before .before)) (rw (c .before .before .before .before .before .before .before .before .before .u16-at .ensures) at (c .before .before .before .before .walk-configurations .ensures)) (c .before .before .before .if4 .left)
+    body-end _ (read (c .before .before .before .before .before .before .before .before .before .before .before)) (row 2) (ap row (c .before .before .before .before .before .before .before .before .before .before .before .before .before .before .before .before .pre .2)) (c .before .before .before .before .before .before .before .before .before .before .if2 .left) (agree (c .before .before .before .before .before .before .before)) configurations refl (rw (c .before .before .before .before .before .before .before .before .before .u16-at .ensures) at (c .before .before .before .before .walk-configurations .ensures)) (c .before .before .before .if4 .left)
     (rw (c .before .wide .ensures) at (c .end-fault .ensures))
 
 pub configuration-fault-spec : {M : Type 1} → statement M
@@ -49,8 +56,7 @@ configuration-fault-spec =
     (search needs)
     (search needs)
     returns-3
-    (search needs)
-    (search needs)
+    walk-configurations-requires
     returns-4
     (search needs)
     (search needs)

@@ -1,17 +1,26 @@
-use Rattle.codec.proofs.WalkCases.{fields-whole, Headed, headed, turn-none, turn-head, turn-fields, turn-next}
+use Rattle.codec.proofs.WalkCases.{fields-whole, Headed, headed, head-stop, head-next, turn-none, turn-stop, turn-next}
+use Rattle.codec.proofs.MetIds.{met-next, met-all, met-end, met-some}
+use Rattle.codec.proofs.Bits.{bit-under}
+use Rattle.codec.proofs.Outcomes.{and-true, by-number}
 use Rattle.codec.specs.Blocks.{capabilities, layouts}
+use Rattle.codec.specs.Technology.{bit}
+use Rattle.codec.specs.Message.{setOf, blockFault}
+use Rattle.codec.specs.Inner.Places.{numberIn, idFault}
+use mathlib.Core.Path.{_≡_, sym, _∙_}
 use lib.ListN.{getD}
 use native.Mathlib.Nat.{pos-of-ne-zero}
 use native.Mathlib.Omega.{arith}
 use Prim.Native.Nat.{ℕ, _<_}
+use borrow.Author.Needs.{needs}
 use borrow.Fn.Kinds.{In}
 use borrow.Fn.PlainCycle.{Measures, is, falls, and}
 use Rattle.codec.proofs.walk.walk_capabilities.Reads as walk
 use Rattle.codec.proofs.walk.walk_capabilities.Kinds as walk-kinds
 use Rattle.codec.proofs.walk.+walk_capabilities.Lts-walk_capabilities as walk-lts
 use Rattle.codec.proofs.blocks.capability_fault.Reads as fault-reads
-use Rattle.codec.proofs.technology.without.Reads as without-reads
-use Rattle.codec.proofs.walk.awaited_fault.Reads as awaited-fault-reads
+use Rattle.codec.proofs.technology.unmet.Reads as unmet-reads
+use Rattle.codec.proofs.technology.meet.Reads as meet-reads
+use Rattle.codec.proofs.walk.id_fault.Reads as id-fault-reads
 use Rattle.codec.proofs.walk.pass.Reads as pass-reads
 use Rattle.codec.proofs.walk.+walk_capabilities.{statement}
 use Rattle.codec.proofs.walk.+walk_capabilities.Tie.{close}
@@ -27,12 +36,14 @@ walk-below t = and 3 walk-kinds.ps (falls 3 walk-kinds.ps _<_ μ-walk t) walk.Pr
 
 abbrev claims : ℕ → walk-lts.Claims
 claims t = (
-  awaited-fault-reads.Asked,
-  awaited-fault-reads.Learnt,
+  unmet-reads.Asked,
+  unmet-reads.Learnt,
+  id-fault-reads.Asked,
+  id-fault-reads.Learnt,
   fault-reads.Asked,
   fault-reads.Learnt,
-  without-reads.Asked,
-  without-reads.Learnt,
+  meet-reads.Asked,
+  meet-reads.Learnt,
   pass-reads.Asked,
   pass-reads.Learnt,
   walk-below t,
@@ -40,55 +51,80 @@ claims t = (
 )
 
 module _ (t : ℕ) where
-  here : (c : walk-lts.Else2 (claims t) (walk-at t) walk.Post) → let s = c .before .before .before .before .args in Headed (s .m .now .now) (s .at) (s .awaited)
-  here c = headed _ _ _ (c .before .awaited-fault .ensures) (c .if2 .left)
+  module _ (s : walk-lts.Start (claims t) (walk-at t) walk.Post) where
+    small : setOf (s .args .m .now .now) < 65536
+    small = omega (arith, s .pre .1 .3)
+
+    all : s .args .left ≡ 0 → s .args .met ≡ setOf (s .args .m .now .now)
+    all = met-all _ _ (s .pre .1 .4) (s .pre .1 .1) small (omega arith)
+
+  some : (c : walk-lts.Else1 (claims t) (walk-at t) walk.Post) → c .before .before .args .left ≡ 0 → ⊥
+  some c = let s = c .before .before in met-some _ _ (s .pre .1 .4) (s .pre .1 .1) (small s) (rw (s .pre .1 .3) at (c .before .unmet .ensures)) (omega arith) (omega arith) (c .if1 .left)
+
+  -- the head of the block, and then the whole block
+  head : (c : walk-lts.After-id-fault (claims t) (walk-at t) walk.Post) → let a = c .before .before .before .before .args in let m = a .m .now .now in c .id-fault .result ≡ numberIn (idFault (setOf m) (a .met) m (a .at))
+  head c = rw (c .before .before .before .before .pre .1 .3) at (c .id-fault .ensures)
+
+  here : (c : walk-lts.Else2 (claims t) (walk-at t) walk.Post) → let a = c .before .before .before .before .before .args in Headed (a .m .now .now) (a .at) (a .met)
+  here c = headed _ _ _ (head (c .before)) (c .if2 .left)
+
+  block : (c : walk-lts.After-capability-fault (claims t) (walk-at t) walk.Post) → let a = c .before .before .before .before .before .before .before .args in let m = a .m .now .now in c .capability-fault .result ≡ numberIn (blockFault (layouts capabilities) (setOf m) m (bit (a .met)) (a .at))
+  block c = head-next _ _ _ capabilities (here (c .before .before)) (c .capability-fault .ensures)
 
   cast-found : walk-lts.Need-cast-found (claims t) (walk-at t) walk.Post
-  cast-found c = omega (arith, c .before .pre .1 .0, c .before .pre .1 .1)
+  cast-found c = omega (arith, c .before .before .pre .1 .0, c .before .before .pre .1 .1)
 
   element-write-found : walk-lts.Need-element-write-found (claims t) (walk-at t) walk.Post
-  element-write-found c = omega (arith, c .before .pre .1 .2)
+  element-write-found c = omega (arith, c .before .before .pre .1 .2)
 
   returns : walk-lts.Need-returns (claims t) (walk-at t) walk.Post
-  returns c = turn-none _ _ _ _ _ _ (c .if1 .taken) (c .before .pre .1 .2)
+  returns c = let s = c .before .before in turn-none _ _ _ _ _ _ (all s) (met-end _ _ (s .pre .1 .4) (s .pre .1 .1) (small s) (rw (s .pre .1 .3) at (c .before .unmet .ensures)) (c .if1 .taken)) (s .pre .1 .2)
 
-  awaited-fault-requires : walk-lts.Need-awaited-fault-requires (claims t) (walk-at t) walk.Post
-  awaited-fault-requires c κs = c .before .before .pre .1 .1
+  id-fault-requires : walk-lts.Need-id-fault-requires (claims t) (walk-at t) walk.Post
+  id-fault-requires c κs = c .before .before .before .pre .1 .1
 
   returns-2 : walk-lts.Need-returns-2 (claims t) (walk-at t) walk.Post
-  returns-2 c = turn-head _ _ _ _ _ _ (c .before .before .before .if1 .left) (c .before .awaited-fault .ensures) (c .if2 .taken) (c .before .before .before .before .pre .1 .2)
+  returns-2 c = let s = c .before .before .before .before .before in turn-stop _ _ _ _ _ _ (all s) (some (c .before .before .before)) (head-stop (s .args .m .now .now) (s .args .at) (s .args .met) (head (c .before)) capabilities (c .if2 .taken)) (c .if2 .taken) (s .pre .1 .2)
 
   capability-fault-requires : walk-lts.Need-capability-fault-requires (claims t) (walk-at t) walk.Post
   capability-fault-requires c κs = here (c .before) .two
 
   returns-3 : walk-lts.Need-returns-3 (claims t) (walk-at t) walk.Post
-  returns-3 c = turn-fields _ _ _ _ _ _ (c .before .before .before .before .before .before .if1 .left) (here (c .before .before .before)) (c .before .capability-fault .ensures) (c .if3 .taken) (c .before .before .before .before .before .before .before .pre .1 .2)
+  returns-3 c = let s = c .before .before .before .before .before .before .before .before in turn-stop _ _ _ _ _ _ (all s) (some (c .before .before .before .before .before .before)) (block (c .before)) (c .if3 .taken) (s .pre .1 .2)
 
-  index-1-without : walk-lts.Need-index-1-without (claims t) (walk-at t) walk.Post
-  index-1-without c = omega (arith, here (c .before .before .before) .two)
+  index-1-meet : walk-lts.Need-index-1-meet (claims t) (walk-at t) walk.Post
+  index-1-meet c = omega (arith, here (c .before .before .before) .two)
 
-  without-requires : walk-lts.Need-without-requires (claims t) (walk-at t) walk.Post
-  without-requires c κs = here (c .before .before .before .before) .comes
+  meet-requires : walk-lts.Need-meet-requires (claims t) (walk-at t) walk.Post
+  meet-requires c κs = bit-under 16 _ (small (c .before .before .before .before .before .before .before .before .before)) _ (and-true _ _ (here (c .before .before .before .before) .comes) .0)
 
   pass-requires : walk-lts.Need-pass-requires (claims t) (walk-at t) walk.Post
-  pass-requires c κs = (here (c .before .before .before .before .before .before .before) .two, c .before .before .before .before .before .before .before .before .before .before .before .pre .1 .0, c .before .before .before .before .before .before .before .before .before .before .before .pre .1 .2)
+  pass-requires c κs = let s = c .before .before .before .before .before .before .before .before .before .before .before .before in (here (c .before .before .before .before .before .before .before) .two, s .pre .1 .0, s .pre .1 .2)
 
   sub-walk : walk-lts.Need-sub-walk-capabilities (claims t) (walk-at t) walk.Post
-  sub-walk c = pos-of-ne-zero (c .before .before .before .before .before .before .before .before .before .before .before .if1 .left)
+  sub-walk c = pos-of-ne-zero (some (c .before .before .before .before .before .before .before .before .before .before .before))
 
   walk-requires : walk-lts.Need-walk-capabilities-requires (claims t) (walk-at t) walk.Post
   walk-requires c κs =
-      let s = c .before .before .before .before .before .before .before .before .before .before .before .before .before in
+      let s = c .before .before .before .before .before .before .before .before .before .before .before .before .before .before in
       let m = s .args .m .now .now in
-      (omega (arith, pos-of-ne-zero (c .before .before .before .before .before .before .before .before .before .before .before .before .if1 .left)), (s .pre .1 .0, rw (c .before .pass .ensures .0) (fields-whole (layouts capabilities (getD m (s .args .at) 0)) m (s .args .at) (c .before .before .before .before .before .before .before .capability-fault .ensures) (c .before .before .before .before .before .before .if3 .left)), c .before .pass .ensures .2))
+      let none = c .before .before .before .before .before .before .if3 .left in
+      let met = by-number _ (sym (block (c .before .before .before .before .before .before .before)) ∙ none) λ u a. met-next _ _ (s .pre .1 .4) (s .pre .1 .1) (some (c .before .before .before .before .before .before .before .before .before .before .before .before)) a (c .before .before .before .before .meet .ensures) in (
+        omega (arith, pos-of-ne-zero (some (c .before .before .before .before .before .before .before .before .before .before .before .before))),
+        (
+          s .pre .1 .0,
+          rw (c .before .pass .ensures .0) (fields-whole (layouts capabilities (getD m (s .args .at) 0)) m (s .args .at) (c .before .before .before .before .before .before .before .capability-fault .ensures) none),
+          c .before .pass .ensures .2,
+          s .pre .1 .3,
+          rw (c .before .pass .ensures .0) met,
+        ),
+      )
 
   returns-4 : walk-lts.Need-returns-4 (claims t) (walk-at t) walk.Post
-  returns-4 c =
-      turn-next _ _ _ _ _ _ (c .before .before .before .before .before .before .before .before .before .before .before .before .before .if1 .left) (here (c .before .before .before .before .before .before .before .before .before .before)) (c .before .before .before .before .before .before .before .before .capability-fault .ensures) (c .before .before .before .before .before .before .before .if3 .left) (c .before .before .before .before .before .without .ensures)
-      (rw (c .before .before .pass .ensures .0, c .before .before .pass .ensures .1) at (c .walk-capabilities .ensures))
+  returns-4 c = let s = c .before .before .before .before .before .before .before .before .before .before .before .before .before .before .before in turn-next _ _ _ _ _ _ (all s) (some (c .before .before .before .before .before .before .before .before .before .before .before .before .before)) (block (c .before .before .before .before .before .before .before .before)) (c .before .before .before .before .before .before .before .if3 .left) (c .before .before .before .before .before .meet .ensures) (rw (c .before .before .pass .ensures .0, c .before .before .pass .ensures .1) at (c .walk-capabilities .ensures))
 
 pub +walk-capabilities-spec : {M : Type 1} → statement M
 +walk-capabilities-spec =
     close μ-walk λ t.
     walk-lts.spec (claims t) (walk-at t) walk.Post
-    (cast-found t) (element-write-found t) (returns t) (awaited-fault-requires t) (returns-2 t) (capability-fault-requires t) (returns-3 t) (index-1-without t) (without-requires t) (pass-requires t) (sub-walk t) (walk-requires t) (returns-4 t)
+    (search needs) (cast-found t) (element-write-found t) (returns t) (id-fault-requires t) (returns-2 t) (capability-fault-requires t) (returns-3 t) (index-1-meet t) (meet-requires t) (pass-requires t) (sub-walk t) (walk-requires t) (returns-4 t)
