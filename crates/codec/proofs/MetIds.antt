@@ -21,7 +21,7 @@ use Rattle.codec.specs.Inner.MetIds.{Met}
 use Rattle.codec.proofs.Outcomes.{by-bool, and-true, or-true, chained}
 use Rattle.codec.proofs.Bits.{bit-above, bit-under, bit-ext}
 use Rattle.codec.proofs.Counting.{count-under, has-some, no-fewer, all-named}
-use Rattle.codec.proofs.WalkCases.{Sound, sound}
+use Rattle.codec.proofs.WalkCases.{sound}
 use Rattle.codec.proofs.Walks.{Lies, walked}
 
 -- ---- truth values
