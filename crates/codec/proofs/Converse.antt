@@ -27,7 +27,7 @@ use Rattle.codec.proofs.Outcomes.{by-bool}
 use Rattle.codec.proofs.Layouts.{need-from}
 use Rattle.codec.proofs.Fields.{octets-left, octets-right, typed-zeroes, zeroed-zeroes, forth}
 use Rattle.codec.proofs.Bits.{bit-under}
-use Rattle.codec.proofs.Counting.{has-some, has-later, all-named}
+use Rattle.codec.proofs.Counting.{has-some, all-named}
 use Rattle.codec.proofs.Every.{Among, first, further, each-at}
 use Rattle.codec.proofs.Cells.{cell-fits, layout-of, cell-here}
 use Rattle.codec.proofs.Risings.{Ascending, ascending}
@@ -54,6 +54,10 @@ has-above k id (b ∷ blocks) h (later r) = has-above k id blocks (h .1) r
 has-first : (id : ℕ) (b : List ℕ) (blocks : List (List ℕ)) → Each (λ c. getD b 0 0 < getD c 0 0) blocks → id ≤ getD b 0 0 → Has id (b ∷ blocks) → getD b 0 0 ≡ id
 has-first id b blocks h l (this e) = e
 has-first id b blocks h l (later r) = absurd (omega (arith, has-above (getD b 0 0) id blocks h r))
+
+has-later : (id : ℕ) (b : List ℕ) (blocks : List (List ℕ)) → (getD b 0 0 ≡ id → ⊥) → Has id (b ∷ blocks) → Has id blocks
+has-later id b blocks n (this e) = absurd (n e)
+has-later id b blocks n (later r) = r
 
 -- ---- a whole block of a technology
 

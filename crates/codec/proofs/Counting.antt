@@ -5,17 +5,17 @@ use native.Mathlib.Numerals.{add-one}
 use native.Mathlib.Nat.{div-eq-of-lt, zero-add, add-zero, add-suc, suc-add, div-one, eq-or-lt-of-le}
 use mathlib.Core.Logic.{⊎-elim}
 use mathlib.Core.Path.{_≡_, refl, sym, ap, _∙_}
-use mathlib.Core.Bool.{Bool, true, false, not, _&&_}
+use mathlib.Core.Bool.{Bool, true, false, not, _&&_, _||_}
 use mathlib.Core.List.{List, [], _∷_}
 use lib.Dec.{eqb}
 use lib.ListN.{length, getD}
 use lib.Pow.{shr-shr}
 use lib.Count.{ones, ones-step}
-use borrow.Author.Tests.{eqb-true, eqb-false, eq-eqb, ne-eqb, not-true}
+use borrow.Author.Tests.{eqb-true, eq-eqb, ne-eqb}
 use Rattle.codec.specs.Technology.{bit}
 use Rattle.codec.specs.Layout.{Layout}
 use Rattle.codec.specs.WellFormed.{Whole, Each, Once, Has, this, later}
-use Rattle.codec.proofs.Outcomes.{by-bool, and-true}
+use Rattle.codec.proofs.Outcomes.{by-bool}
 use Rattle.codec.proofs.Bits.{by-digit, bit-under}
 
 abbrev pub one : Bool → ℕ
@@ -54,9 +54,6 @@ without old may id = not (eqb id old) && may id
 without-other : (old : ℕ) (may : ℕ → Bool) (id : ℕ) → (id ≡ old → ⊥) → without old may id ≡ may id
 without-other old may id h = rw (ne-eqb id old h)
 
-without-only : (old : ℕ) (may : ℕ → Bool) (id : ℕ) → without old may id ≡ true → (id ≡ old → ⊥) × (may id ≡ true)
-without-only old may id e = let r = and-true (not (eqb id old)) (may id) e in (eqb-false id old (not-true _ (r .0)), r .1)
-
 count-cong : (k lo : ℕ) (p q : ℕ → Bool) → ((j : ℕ) → lo ≤ j → p j ≡ q j) → count k lo p ≡ count k lo q
 count-cong zero lo p q h = refl
 count-cong (suc k) lo p q h = cc (h lo (omega arith), count-cong k (suc lo) p q (λ j b. h j (omega arith)))
@@ -84,19 +81,38 @@ count-none (suc k) lo may e j a b =
     here true e = absurd (omega arith)
     here false e = refl
 
-count-no : (k lo : ℕ) (may : ℕ → Bool) → ((j : ℕ) → may j ≡ false) → count k lo may ≡ 0
-count-no zero lo may h = refl
-count-no (suc k) lo may h = rw (h lo, count-no k (suc lo) may h)
+-- ---- a number with one bit more, and the bits of a set that are not in a part of it
+
+pub ones-more : (old more new : ℕ) → old < 65536 → more < 65536 → bit old new ≡ false → ((id : ℕ) → bit more id ≡ (eqb id new || bit old id)) → ones more ≡ suc (ones old)
+ones-more old more new h k f b =
+    let has : bit more new ≡ true = b new ∙ rw (eq-eqb new new refl) in
+    let same : (id : ℕ) → without new (bit more) id ≡ bit old id = λ id. by-bool (eqb id new) (λ y. rw (y, eqb-true id new y, f)) (λ n. rw n (b id ∙ rw n)) in
+    count-under 16 more k ∙ count-without 16 0 new (bit more) (omega arith) (bit-under 16 more k new has) has
+    ∙ ap suc (count-cong 16 0 (without new (bit more)) (bit old) (λ id l. same id) ∙ sym (count-under 16 old h))
+
+count-rest : (k lo : ℕ) (p q r : ℕ → Bool) → ((j : ℕ) → q j ≡ true → p j ≡ true) → ((j : ℕ) → r j ≡ (p j && not (q j))) → count k lo r + count k lo q ≡ count k lo p
+count-rest zero lo p q r w e = refl
+count-rest (suc k) lo p q r w e = rw (e lo) (omega (arith, one-rest (p lo) (q lo) (w lo), count-rest k (suc lo) p q r w e))
+  where
+    one-rest : (a b : Bool) → (b ≡ true → a ≡ true) → one (a && not b) + one b ≡ one a
+    one-rest true true h = refl
+    one-rest true false h = refl
+    one-rest false true h = let z : _≡_ {A = ℕ} 0 1 = cc (h refl) in absurd (omega arith)
+    one-rest false false h = refl
+
+pub ones-rest : (set part rest : ℕ) → set < 65536 → part < 65536 → rest < 2 ^ 32 → ((id : ℕ) → bit part id ≡ true → bit set id ≡ true) → ((id : ℕ) → bit rest id ≡ (bit set id && not (bit part id)))
+    → ones rest + ones part ≡ ones set
+ones-rest set part rest h k l w e =
+    rw (count-under 32 rest l, count-under 32 part (omega arith), count-under 32 set (omega arith)) (count-rest 32 0 (bit set) (bit part) (bit rest) w e)
+
+pub ones-part : (set part : ℕ) → set < 65536 → part < 65536 → ((id : ℕ) → bit part id ≡ true → bit set id ≡ true) → ones part ≤ ones set
+ones-part set part h k w = omega (arith, count-under 16 set h, count-under 16 part k, count-rest 16 0 (bit set) (bit part) (λ id. bit set id && not (bit part id)) w (λ id. refl))
 
 -- ---- the block of an ID
 
 pub has-some : (id : ℕ) (blocks : List (List ℕ)) → Has id blocks → 0 < length blocks
 has-some id (b ∷ blocks) (this e) = omega arith
 has-some id (b ∷ blocks) (later h) = omega arith
-
-pub has-later : (id : ℕ) (b : List ℕ) (blocks : List (List ℕ)) → (getD b 0 0 ≡ id → ⊥) → Has id (b ∷ blocks) → Has id blocks
-has-later id b blocks n (this e) = absurd (n e)
-has-later id b blocks n (later r) = r
 
 each-without : (old : ℕ) (may : ℕ → Bool) (blocks : List (List ℕ)) → Each (λ c. getD c 0 0 ≡ old → ⊥) blocks → Each (λ b. may (getD b 0 0) ≡ true) blocks
     → Each (λ b. without old may (getD b 0 0) ≡ true) blocks
@@ -113,19 +129,6 @@ all-there k may (b ∷ blocks) h u o e id l m =
     (λ n.
     let c = count-without k 0 (getD b 0 0) may (omega arith) (omega (arith, u .0)) (h .0) in
     later (all-there k (without (getD b 0 0) may) blocks (each-without (getD b 0 0) may blocks (o .0) (h .1)) (u .1) (o .1) (omega (arith, c)) id l (rw (n, m))))
-
--- blocks with all IDs that pass are at least as many
-pub no-fewer : (k : ℕ) (may : ℕ → Bool) (blocks : List (List ℕ)) → ((id : ℕ) → may id ≡ true → id < k) → ((id : ℕ) → may id ≡ true → Has id blocks) → count k 0 may ≤ length blocks
-no-fewer k may [] u h = omega (arith, count-no k 0 may (λ id. by-bool (may id) (λ y. absurd (omega (arith, has-some id [] (h id y)))) (λ n. n)))
-no-fewer k may (b ∷ blocks) u h =
-    let old = getD b 0 0 in
-    by-bool (may old)
-    (λ y.
-    let r = no-fewer k (without old may) blocks (λ id e. u id (without-only old may id e .1)) (λ id e. let o = without-only old may id e in has-later id b blocks (λ d. o .0 (sym d)) (h id (o .1))) in
-    omega (arith, r, count-without k 0 old may (omega arith) (omega (arith, u old y)) y))
-    (λ n.
-    let r = no-fewer k may blocks u (λ id y. has-later id b blocks (λ d. let z : _≡_ {A = ℕ} 0 1 = cc in absurd (omega arith)) (h id y)) in
-    omega (arith, r))
 
 -- as many whole blocks as the set has bits, no ID twice: each bit has one
 module _ (layouts : ℕ → Layout) (set : ℕ) (small : set < 65536) where

@@ -17,9 +17,11 @@ use Rattle.codec.specs.Layout.{member}
 use Rattle.codec.specs.Blocks.{Column, layouts}
 use Rattle.codec.specs.Table.{messageLimit, assigned, readable, Row, row, blockCount, layoutsOf}
 use Rattle.codec.specs.Message.{versionOf, idOf, setOf, setsAgree, blocksAt, noId, Walked, walk, endFault, blocksFrom, afterHead, body, parse}
+use Rattle.codec.specs.Inner.MetIds.{blocksLeft}
 use Rattle.codec.specs.Inner.Places.{numberIn, headFault, noted, setAlone, Finds, FindsLeft, Judged}
 use Rattle.codec.proofs.Outcomes.{by-bool, by-number, no-zero, demanded, demand-stop}
 use Rattle.codec.proofs.Bits.{bit-above}
+use Rattle.codec.proofs.Counting.{ones-none}
 
 -- ---- what is judged
 
@@ -63,22 +65,25 @@ assigned-under id e =
 
 -- ---- the blocks, and the end of the message
 
-module _ (k : Column) (m : List ℕ) (n at : ℕ) (found : List ℕ) {f : ℕ} {left : List ℕ} (h : FindsLeft k m at n 0 found f left) where
-  -- from the first block on no ID is met
-  finds : Finds (walk (layouts k) (setOf m) m n noId at) at found f left
-  finds = let none : bit 0 ≡ noId = λ i id. bit-above 0 0 (omega arith) id (omega arith) i in rw none at (h .finds)
+module _ (k : Column) (m : List ℕ) (at : ℕ) (found : List ℕ) {f : ℕ} {left : List ℕ} (h : FindsLeft k m at 0 found f left) where
+  -- from the first block on, where no ID is met
+  finds : Finds (walk (layouts k) (setOf m) m (ones (setOf m)) noId at) at found f left
+  finds =
+      let none : bit 0 ≡ noId = λ i id. bit-above 0 0 (omega arith) id (omega arith) i in
+      let all : blocksLeft m 0 ≡ ones (setOf m) = rw ones-none (omega arith) in
+      rw (none, all) at (h .finds)
 
-  blocks-stop : (f ≡ 0 → ⊥) → Judged true (blocksFrom (layouts k) m n at) at found f left
+  blocks-stop : (f ≡ 0 → ⊥) → Judged true (blocksFrom (layouts k) m (ones (setOf m)) at) at found f left
   unfolding blocksFrom
-  blocks-stop z = go (walk (layouts k) (setOf m) m n noId at) finds
+  blocks-stop z = go (walk (layouts k) (setOf m) m (ones (setOf m)) noId at) finds
     where
       go : (w : Checked Walked) → Finds w at found f left → Judged true (andThen w λ w. andThen (endFault m (w .end)) λ _. accept (w .blocks)) at found f left
       go (refuse x) e = judged-refused e z (h .size)
       go (accept w) e = absurd (z (e .0))
 
-  blocks-end : {g : ℕ} → f ≡ 0 → g ≡ numberIn (endFault m (getD left 4 0)) → Judged true (blocksFrom (layouts k) m n at) at found g left
+  blocks-end : {g : ℕ} → f ≡ 0 → g ≡ numberIn (endFault m (getD left 4 0)) → Judged true (blocksFrom (layouts k) m (ones (setOf m)) at) at found g left
   unfolding blocksFrom
-  blocks-end {g} z e = go (walk (layouts k) (setOf m) m n noId at) finds
+  blocks-end {g} z e = go (walk (layouts k) (setOf m) m (ones (setOf m)) noId at) finds
     where
       last : (w : Walked) (c : Checked (Unit {0})) → left ≡ noted (w .blocks) at found → g ≡ numberIn c → Judged true (andThen c λ _. accept (w .blocks)) at found g left
       last w (refuse x) p e = judged-refused e (λ z. no-zero x (sym e ∙ z)) (h .size)
@@ -114,12 +119,12 @@ module _ (m : List ℕ) where
       body-blocks s = rw (← body-is, le-leb (blocksAt (R .times)) (length m) l, s)
 
       -- after the sets come the blocks, and then the end
-      module _ (s : setsAgree (R .times) m ≡ true) (k : Column) (c : R .column ≡ some k) {found : List ℕ} {f : ℕ} {left : List ℕ} (h : FindsLeft k m (blocksAt (R .times)) (ones (setOf m)) 0 found f left) where
+      module _ (s : setsAgree (R .times) m ≡ true) (k : Column) (c : R .column ≡ some k) {found : List ℕ} {f : ℕ} {left : List ℕ} (h : FindsLeft k m (blocksAt (R .times)) 0 found f left) where
         pub body-stop : (f ≡ 0 → ⊥) → Judged true (body m) (blocksAt (R .times)) found f left
-        body-stop z = judged-as (blocks-stop k m _ _ found h z) (rw c at (body-blocks s))
+        body-stop z = judged-as (blocks-stop k m _ found h z) (rw c at (body-blocks s))
 
         pub body-end : {g : ℕ} → f ≡ 0 → g ≡ numberIn (endFault m (getD left 4 0)) → Judged true (body m) (blocksAt (R .times)) found g left
-        body-end z e = judged-as (blocks-end k m _ _ found h z e) (rw c at (body-blocks s))
+        body-end z e = judged-as (blocks-end k m _ found h z e) (rw c at (body-blocks s))
 
   -- after a set alone comes the end
   pub set-end : readable (versionOf m) (idOf m) ≡ true → row (idOf m) ≡ setAlone → 4 ≤ length m → numberIn (endFault m 4) ≡ numberIn (body m)

@@ -1,10 +1,9 @@
 -- The number with a bit for each ID met: its bits are the IDs met after each block, and when no block is left it is the set.
-use Prim.Native.Nat.{ℕ, zero, suc, _+_, _-_, _^_, _≤_, _<_}
+use Prim.Native.Nat.{ℕ, zero, suc, _-_, _^_, _≤_, _<_}
 use native.Mathlib.Omega.{arith}
-use native.Mathlib.Nat.{pos-of-ne-zero}
 use mathlib.Core.Path.{_≡_, refl, sym, ap, _∙_, subst}
 use mathlib.Core.Logic.{_⊎_, inl, inr, ⊎-elim}
-use mathlib.Core.Bool.{Bool, true, false, not, _&&_, _||_}
+use mathlib.Core.Bool.{Bool, true, false, not, _&&_}
 use mathlib.Core.List.{List, [], _∷_, _++_}
 use lib.Dec.{eqb}
 use lib.Count.{ones}
@@ -17,27 +16,12 @@ use Rattle.codec.specs.Blocks.{Column, layouts}
 use Rattle.codec.specs.Table.{messageOf, row}
 use Rattle.codec.specs.Message.{setOf, blocksAt, blockAt, placeAfter, noId, also, blockFault, Walked, prepend, walk}
 use Rattle.codec.specs.WellFormed.{Whole, Each, Has, this, later}
-use Rattle.codec.specs.Inner.MetIds.{Met}
-use Rattle.codec.proofs.Outcomes.{by-bool, and-true, or-true, chained}
-use Rattle.codec.proofs.Bits.{bit-above, bit-under, bit-ext}
-use Rattle.codec.proofs.Counting.{count-under, has-some, no-fewer, all-named}
+use Rattle.codec.specs.Inner.MetIds.{Met, blocksLeft}
+use Rattle.codec.proofs.Outcomes.{and-true, or-true, or-right, iff-same, chained}
+use Rattle.codec.proofs.Bits.{bit-above, bit-ext}
+use Rattle.codec.proofs.Counting.{ones-none, ones-more, ones-rest, ones-part, has-some, all-named}
 use Rattle.codec.proofs.WalkCases.{sound}
 use Rattle.codec.proofs.Walks.{Lies, walked}
-
--- ---- truth values
-
-or-right : (a : Bool) {b : Bool} → b ≡ true → (a || b) ≡ true
-or-right true e = refl
-or-right false e = e
-
-neither : (a : Bool) → (a && not a) ≡ false
-neither true = refl
-neither false = refl
-
-iff-same : (a b : Bool) → (a ≡ true → b ≡ true) → (b ≡ true → a ≡ true) → a ≡ b
-iff-same true b f g = sym (f refl)
-iff-same false true f g = g refl
-iff-same false false f g = refl
 
 -- ---- one block more at the end
 
@@ -98,67 +82,64 @@ module _ (k : Column) (m : List ℕ) where
   start = blocksAt (row (messageOf k) .times)
 
   -- before the first block
-  pub met-none : Met k m start (ones (setOf m)) 0
+  pub met-none : Met k m start 0
   unfolding walk
   met-none = record {
-    before = 0;
     walked = record { blocks = []; end = start };
-    accepted = refl;
+    accepted = rw ones-none;
     place = refl;
     bits = λ id. (λ e. let z : _≡_ {A = ℕ} 0 1 = cc (bit-above 0 0 (omega arith) id (omega arith)) in absurd (omega arith), λ h. absurd (omega (arith, has-some id [] h)));
-    rest = omega arith;
   }
 
-  module _ {at left met : ℕ} (h : Met k m at left met) (inside : at ≤ length m) where
-    lies : Lies (layouts k) (setOf m) m (h .before) noId start (h .walked .blocks) (h .walked .end)
-    lies = walked (layouts k) (setOf m) m (h .before) noId start (h .walked) (walk-start (layouts k) (setOf m) m (h .before) noId start (h .walked) (h .accepted) (omega (arith, h .place))) (h .accepted)
+  module _ {at met : ℕ} (h : Met k m at met) (inside : at ≤ length m) (small : setOf m < 65536) (short : met < 65536) where
+    lies : Lies (layouts k) (setOf m) m (ones met) noId start (h .walked .blocks) (h .walked .end)
+    lies = walked (layouts k) (setOf m) m (ones met) noId start (h .walked) (walk-start (layouts k) (setOf m) m (ones met) noId start (h .walked) (h .accepted) (omega (arith, h .place))) (h .accepted)
+
+    within : (id : ℕ) → bit met id ≡ true → bit (setOf m) id ≡ true
+    within id y = has-named (layouts k) (setOf m) (h .walked .blocks) (lies .whole) (h .bits id .0 y)
+
+    -- how many blocks are left, as the code counts them
+    pub met-left : {unmet : ℕ} → unmet < 2 ^ 32 → ((id : ℕ) → bit unmet id ≡ (bit (setOf m) id && not (bit met id))) → ones unmet ≡ blocksLeft m met
+    met-left {unmet} l e = omega (arith, ones-rest (setOf m) met unmet small short l within e)
+
+    -- when none is left, the IDs met are the set
+    pub met-all : blocksLeft m met ≡ 0 → met ≡ setOf m
+    met-all z =
+        let count : length (h .walked .blocks) ≡ ones (setOf m) = omega (arith, lies .count, ones-part (setOf m) met small short within) in
+        bit-ext 16 met (setOf m) short small λ id.
+        iff-same (bit met id) (bit (setOf m) id) (within id) (λ y. h .bits id .1 (all-named (layouts k) (setOf m) small (h .walked .blocks) (lies .whole) (lies .once) count id y))
 
     -- after each block
-    pub met-next : (left ≡ 0 → ⊥) → blockFault (layouts k) (setOf m) m (bit met) at ≡ accept tt → {more : ℕ} → ((id : ℕ) → bit more id ≡ also (getD m at 0) (bit met) id)
-        → Met k m (placeAfter m at) (left - 1) more
-    met-next some a {more} b =
-        let w = h .walked in
-        let new = getD m (w .end) 0 in
-        let a₁ : blockFault (layouts k) (setOf m) m (bit met) (w .end) ≡ accept tt = rw (h .place) a in
-        let s = sound (layouts k) (setOf m) m (bit met) (w .end) a₁ in
-        let fresh : bit met new ≡ false = not-true _ (and-true (bit (setOf m) new) _ (s .comes) .1) in
-        let b₁ : (id : ℕ) → bit more id ≡ (eqb id new || bit met id) = rw (h .place) b in
-        record {
-          before = suc (h .before);
-          walked = append m w;
-          accepted = walk-append (layouts k) (setOf m) m (h .before) noId (bit met) start w (h .accepted) a₁ refl (λ r. let z : _≡_ {A = ℕ} 0 1 = cc (h .bits new .1 r) in absurd (omega arith));
-          place = ap (placeAfter m) (h .place);
-          bits = λ id. (
-            λ e.
-                or-true (eqb id new) (bit met id) (sym (b₁ id) ∙ e)
-                (λ y. has-last (w .blocks) (blockAt m (w .end)) (s .first ∙ sym (eqb-true id new y)))
-                (λ y. has-before (w .blocks) (blockAt m (w .end)) (h .bits id .0 y)),
-            λ r.
-                b₁ id
-                ∙ ⊎-elim
-                (λ q. or-right (eqb id new) (h .bits id .1 q))
-                (λ e. rw (eq-eqb id new (sym e ∙ s .first)))
-                (has-either (w .blocks) (blockAt m (w .end)) r),
-          );
-          rest = omega (arith, h .rest, pos-of-ne-zero some);
-        }
+    module _ (a : blockFault (layouts k) (setOf m) m (bit met) at ≡ accept tt) {more : ℕ} (tall : more < 65536) (b : (id : ℕ) → bit more id ≡ also (getD m at 0) (bit met) id) where
+      fresh : bit met (getD m at 0) ≡ false
+      fresh = not-true _ (and-true (bit (setOf m) (getD m at 0)) _ (sound (layouts k) (setOf m) m (bit met) at a .comes) .1)
 
-    -- ---- when no block is left
+      one-more : ones more ≡ suc (ones met)
+      one-more = ones-more met more (getD m at 0) short tall fresh b
 
-    module _ (small : setOf m < 65536) where
-      pub met-all : met < 65536 → left ≡ 0 → met ≡ setOf m
-      met-all l z =
-          bit-ext 16 met (setOf m) l small λ id.
-          iff-same (bit met id) (bit (setOf m) id)
-          (λ y. has-named (layouts k) (setOf m) (h .walked .blocks) (lies .whole) (h .bits id .0 y))
-          (λ y. h .bits id .1 (all-named (layouts k) (setOf m) small (h .walked .blocks) (lies .whole) (lies .once) (omega (arith, lies .count, h .rest)) id y))
+      pub met-fewer : blocksLeft m more ≡ blocksLeft m met - 1
+      met-fewer = omega (arith, one-more)
 
-      module _ {rest : ℕ} (r : (id : ℕ) → bit rest id ≡ (bit (setOf m) id && not (bit met id))) where
-        pub met-end : rest ≡ 0 → left ≡ 0
-        met-end z =
-            let has : (id : ℕ) → bit (setOf m) id ≡ true → Has id (h .walked .blocks) =
-            λ id y. h .bits id .0 (by-bool (bit met id) (λ e. e) (λ e. let z : _≡_ {A = ℕ} 0 1 = cc (r id, bit-above 0 0 (omega arith) id (omega arith)) in absurd (omega arith))) in
-            omega (arith, no-fewer 16 (bit (setOf m)) (h .walked .blocks) (bit-under 16 (setOf m) small) has, count-under 16 (setOf m) small, lies .count, h .rest)
-
-        pub met-some : met < 65536 → rest < 2 ^ 32 → (rest ≡ 0 → ⊥) → left ≡ 0 → ⊥
-        met-some l t n z = n (bit-ext 32 rest 0 t (omega arith) λ id. r id ∙ rw (met-all l z, bit-above 0 0 (omega arith) id (omega arith)) (neither (bit (setOf m) id)))
+      pub met-next : Met k m (placeAfter m at) more
+      met-next =
+          let w = h .walked in
+          let a₁ : blockFault (layouts k) (setOf m) m (bit met) (w .end) ≡ accept tt = rw (h .place) a in
+          let s = sound (layouts k) (setOf m) m (bit met) at a in
+          let first : getD (blockAt m (w .end)) 0 0 ≡ getD m at 0 = rw (h .place) (s .first) in
+          record {
+            walked = append m w;
+            accepted = rw one-more (walk-append (layouts k) (setOf m) m (ones met) noId (bit met) start w (h .accepted) a₁ refl (rw (h .place) (λ r. let z : _≡_ {A = ℕ} 0 1 = cc (h .bits (getD m at 0) .1 r, fresh) in absurd (omega arith))));
+            place = ap (placeAfter m) (h .place);
+            bits = λ id. (
+              λ e.
+                  or-true (eqb id (getD m at 0)) (bit met id) (sym (b id) ∙ e)
+                  (λ y. has-last (w .blocks) (blockAt m (w .end)) (first ∙ sym (eqb-true id (getD m at 0) y)))
+                  (λ y. has-before (w .blocks) (blockAt m (w .end)) (h .bits id .0 y)),
+              λ r.
+                  b id
+                  ∙ ⊎-elim
+                  (λ q. or-right (eqb id (getD m at 0)) (h .bits id .1 q))
+                  (λ e. rw (eq-eqb id (getD m at 0) (sym e ∙ first)))
+                  (has-either (w .blocks) (blockAt m (w .end)) r),
+            );
+          }

@@ -1,7 +1,7 @@
 -- Laws of checks: what an acceptance says of each, and the number of a refusal.
 use Prim.Native.Nat.{ℕ}
 use native.Mathlib.Omega.{arith}
-use mathlib.Core.Path.{_≡_, refl}
+use mathlib.Core.Path.{_≡_, refl, sym}
 use mathlib.Core.Bool.{Bool, true, false, _&&_, _||_}
 use Rattle.codec.specs.Refusal.{Refusal, tooLong, endsEarly, reservedId, wrongVersion, setsDiffer, blockTooSmall, wrongBlock, notAllowed, leftOver, notForTag, bufferTooShort, notValid, brokenRecord, numberOf, Checked, refuse, accept, demand, andThen}
 use Rattle.codec.specs.Inner.Places.{numberIn}
@@ -21,6 +21,15 @@ or-true false b e f g = g e
 pub or-false : (a b : Bool) → a || b ≡ false → (a ≡ false) × (b ≡ false)
 or-false true b e = let z : _≡_ {A = ℕ} 0 1 = cc in absurd (omega arith)
 or-false false b e = (refl, e)
+
+pub or-right : (a : Bool) {b : Bool} → b ≡ true → a || b ≡ true
+or-right true e = refl
+or-right false e = e
+
+pub iff-same : (a b : Bool) → (a ≡ true → b ≡ true) → (b ≡ true → a ≡ true) → a ≡ b
+iff-same true b f g = sym (f refl)
+iff-same false true f g = g refl
+iff-same false false f g = refl
 
 pub no-zero : (x : Refusal) → numberOf x ≡ 0 → ⊥
 no-zero tooLong e = omega arith
@@ -46,6 +55,10 @@ module _ {A C : Type 0} where
   pub demanded : (t : Bool) (x : Refusal) (c : Checked A) (a : A) → demand t x c ≡ accept a → (t ≡ true → c ≡ accept a → C) → C
   demanded true x c a e k = k refl e
   demanded false x c a e k = let z : _≡_ {A = ℕ} 0 1 = cc in absurd (omega arith)
+
+pub no-number : (c : Checked (Unit {0})) → numberIn c ≡ 0 → c ≡ accept tt
+no-number (refuse x) e = absurd (no-zero x e)
+no-number (accept u) e = refl
 
 pub chained : {A B C : Type 0} (c : Checked A) (rest : A → Checked B) (b : B) → andThen c rest ≡ accept b → ((a : A) → c ≡ accept a → rest a ≡ accept b → C) → C
 chained (refuse x) rest b e k = let z : _≡_ {A = ℕ} 0 1 = cc in absurd (omega arith)

@@ -15,6 +15,7 @@ use Rattle.codec.specs.Layout.{Layout, least, fault}
 use Rattle.codec.specs.Technology.{bit}
 use Rattle.codec.specs.Blocks.{Column, layouts}
 use Rattle.codec.specs.Message.{setOf, blockAt, placeAfter, also, blockFault, Walked, prepend, walk}
+use Rattle.codec.specs.Inner.MetIds.{blocksLeft}
 use Rattle.codec.specs.Inner.Places.{numberIn, sizeFault, layoutFault, fieldsFault, idFault, note, noted, Finds, FindsLeft}
 use Rattle.codec.proofs.Laws.{part-length}
 use Rattle.codec.proofs.Outcomes.{by-number, demanded, demand-stop}
@@ -138,22 +139,22 @@ module _ (m : List ℕ) (at met : ℕ) where
   unfolding blockFault
   head-next k d e = rw (le-leb (at + 2) (length m) (d .two), d .comes) e
 
-module _ (k : Column) (m : List ℕ) (at left met : ℕ) (found : List ℕ) (all : left ≡ 0 → met ≡ setOf m) where
-  pub turn-none : left ≡ 0 → length found ≡ 5 → FindsLeft k m at left met found 0 (set found 4 at)
+module _ (k : Column) (m : List ℕ) (at met : ℕ) (found : List ℕ) (all : blocksLeft m met ≡ 0 → met ≡ setOf m) where
+  pub turn-none : blocksLeft m met ≡ 0 → length found ≡ 5 → FindsLeft k m at met found 0 (set found 4 at)
   unfolding walk
   turn-none z l = record { finds = rw z (refl, refl, getD-set-same found 4 at 0 (omega arith)); all = all; size = length-set found 4 at ∙ l }
 
-  module _ (some : left ≡ 0 → ⊥) {f : ℕ} (e : f ≡ numberIn (blockFault (layouts k) (setOf m) m (bit met) at)) where
-    pub turn-stop : (f ≡ 0 → ⊥) → length found ≡ 5 → FindsLeft k m at left met found f found
-    turn-stop h l = record { finds = find-stop (layouts k) (setOf m) m (bit met) at left f found found some e h; all = all; size = l }
+  module _ (some : blocksLeft m met ≡ 0 → ⊥) {f : ℕ} (e : f ≡ numberIn (blockFault (layouts k) (setOf m) m (bit met) at)) where
+    pub turn-stop : (f ≡ 0 → ⊥) → length found ≡ 5 → FindsLeft k m at met found f found
+    turn-stop h l = record { finds = find-stop (layouts k) (setOf m) m (bit met) at (blocksLeft m met) f found found some e h; all = all; size = l }
 
-    pub turn-next : f ≡ 0 → {more : ℕ} → ((id : ℕ) → bit more id ≡ also (getD m at 0) (bit met) id) → {g : ℕ} {after : List ℕ}
-        → FindsLeft k m (placeAfter m at) (left - 1) more (note (getD m at 0) at found) g after → FindsLeft k m at left met found g after
-    turn-next z {more} b {g} {after} h = record {
+    pub turn-next : f ≡ 0 → {more : ℕ} → ((id : ℕ) → bit more id ≡ also (getD m at 0) (bit met) id) → blocksLeft m more ≡ blocksLeft m met - 1 → {g : ℕ} {after : List ℕ}
+        → FindsLeft k m (placeAfter m at) more (note (getD m at 0) at found) g after → FindsLeft k m at met found g after
+    turn-next z {more} b n {g} {after} h = record {
       finds =
           by-number (blockFault (layouts k) (setOf m) m (bit met) at) (sym e ∙ z) λ u a.
           let came : bit more ≡ also (getD m at 0) (bit met) = λ i id. b id i in
-          find-next (layouts k) (setOf m) m (bit met) at left g found after some (sound (layouts k) (setOf m) m (bit met) at a) a (rw came at (h .finds));
+          find-next (layouts k) (setOf m) m (bit met) at (blocksLeft m met) g found after some (sound (layouts k) (setOf m) m (bit met) at a) a (rw (came, n) at (h .finds));
       all = all;
       size = h .size;
     }

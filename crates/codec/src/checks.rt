@@ -90,7 +90,7 @@ pub(crate) fn response_fault(m: &[u8], found: &mut [u16; 5]) -> u8
     }
     let set = u16_at(m, 2);
     let view = m;
-    let fault = walk_capabilities(&view, 4, u16::count_ones(set), set, 0, found);
+    let fault = walk_capabilities(&view, 4, set, 0, found);
     if fault != 0 {
         return fault;
     }
@@ -113,7 +113,7 @@ pub(crate) fn configuration_fault(m: &[u8], found: &mut [u16; 5]) -> u8
         return SETS_DIFFER;
     }
     let view = m;
-    let fault = walk_configurations(&view, 6, u16::count_ones(set), set, 0, found);
+    let fault = walk_configurations(&view, 6, set, 0, found);
     if fault != 0 {
         return fault;
     }

@@ -43,7 +43,7 @@ pub fn has_bit(bits: u32, n: u8) -> bool
     false
 }
 
-// The IDs of a set that are not among those met.
+// The IDs of a set that are not among those met, in 32 bits: machine code extends a 16-bit number anew for each test.
 pub(crate) fn unmet(set: u16, met: u16) -> u32
     ensures { λ r. ⌜ ((id : ℕ) → bit r id ≡ (bit set id && not (bit met id))) ⌝ }
 {
@@ -51,7 +51,7 @@ pub(crate) fn unmet(set: u16, met: u16) -> u32
 }
 
 // The IDs met and one more.
-pub(crate) fn meet(met: u16, new: u8) -> u16
+pub(crate) fn also_met(met: u16, new: u8) -> u16
     requires { ⌜ new < 16 ⌝ }
     ensures { λ r. ⌜ ((id : ℕ) → bit r id ≡ also new (bit met) id) ⌝ }
 {

@@ -4,8 +4,8 @@ use crate::blocks::configuration_fault;
 use crate::refusal::ENDS_EARLY;
 use crate::refusal::WRONG_BLOCK;
 use crate::technology::RESERVED;
+use crate::technology::also_met;
 use crate::technology::has_bit;
-use crate::technology::meet;
 use crate::technology::unmet;
 use crate::walker::next_place;
 ghost use mathlib.Core.Path.{_≡_};
@@ -17,7 +17,7 @@ ghost use Rattle.codec.specs.Message.{setOf, placeAfter};
 ghost use Rattle.codec.specs.Inner.MetIds.{Met};
 ghost use Rattle.codec.specs.Inner.Places.{numberIn, idFault, note, FindsLeft};
 
-// The first fault in the head of the block at a place, 0 for none. An ID is wrong that has no bit in the set or was met before.
+// The first fault in the head of the block at a place, 0 for none.
 fn id_fault(m: &[u8], at: usize, set: u16, met: u16) -> u8
     requires { ⌜ at ≤ length (now m) ⌝ }
     ensures { λ f. ⌜ f ≡ numberIn (idFault set met (now (m .entry)) at) ⌝ }
@@ -25,6 +25,7 @@ fn id_fault(m: &[u8], at: usize, set: u16, met: u16) -> u8
     if m.len() - at < 2 {
         return ENDS_EARLY;
     }
+    // no bit in the set, or met before
     if !has_bit(unmet(set, met), m[at]) {
         return WRONG_BLOCK;
     }
@@ -47,20 +48,21 @@ fn pass(m: &[u8], at: usize, found: &mut [u16; 5]) -> usize
 }
 
 // The first fault of the blocks of message 1 that are left, from a place on. For none it is 0, and `found` has the places of the known
-// technologies' blocks and the place after the last block. Of the IDs it keeps one number, with a bit for each that was met: no block
-// is left exactly when they are the set. The message is behind a second reference, so that the compiler makes a loop of the recursion.
+// technologies' blocks and the place after the last block. Of the IDs it keeps one number, `met`, with a bit for each ID met; as many
+// blocks are left as the set has other bits. The message is behind a second reference, so that the compiler makes a loop of the
+// recursion.
 pub(crate) fn walk_capabilities(
     m: &&[u8],
     at: usize,
-    left: u32,
     set: u16,
     met: u16,
     found: &mut [u16; 5],
 ) -> u8
-    requires { ⌜ (length (now (now m)) ≤ messageLimit) × (at ≤ length (now (now m))) × (length (now found) ≡ 5) × (set ≡ setOf (now (now m))) × Met capabilities (now (now m)) at left met ⌝ }
-    ensures { λ f. ⌜ FindsLeft capabilities (now (now (m .entry))) at left met (now (found .entry)) f (now (found .exit)) ⌝ }
+    requires { ⌜ (length (now (now m)) ≤ messageLimit) × (at ≤ length (now (now m))) × (length (now found) ≡ 5) × (set ≡ setOf (now (now m))) × Met capabilities (now (now m)) at met ⌝ }
+    ensures { λ f. ⌜ FindsLeft capabilities (now (now (m .entry))) at met (now (found .entry)) f (now (found .exit)) ⌝ }
 {
-    if unmet(set, met) == 0 {
+    let left = u32::count_ones(unmet(set, met));
+    if left == 0 {
         found[4] = at as u16;
         return 0;
     }
@@ -72,24 +74,24 @@ pub(crate) fn walk_capabilities(
     if fault != 0 {
         return fault;
     }
-    let more = meet(met, m[at]);
+    let more = also_met(met, m[at]);
     let next = pass(*m, at, found);
-    walk_capabilities(m, next, left - 1, set, more, found)
+    walk_capabilities(m, next, set, more, found)
 }
 
 // The same of message 2.
 pub(crate) fn walk_configurations(
     m: &&[u8],
     at: usize,
-    left: u32,
     set: u16,
     met: u16,
     found: &mut [u16; 5],
 ) -> u8
-    requires { ⌜ (length (now (now m)) ≤ messageLimit) × (at ≤ length (now (now m))) × (length (now found) ≡ 5) × (set ≡ setOf (now (now m))) × Met configurations (now (now m)) at left met ⌝ }
-    ensures { λ f. ⌜ FindsLeft configurations (now (now (m .entry))) at left met (now (found .entry)) f (now (found .exit)) ⌝ }
+    requires { ⌜ (length (now (now m)) ≤ messageLimit) × (at ≤ length (now (now m))) × (length (now found) ≡ 5) × (set ≡ setOf (now (now m))) × Met configurations (now (now m)) at met ⌝ }
+    ensures { λ f. ⌜ FindsLeft configurations (now (now (m .entry))) at met (now (found .entry)) f (now (found .exit)) ⌝ }
 {
-    if unmet(set, met) == 0 {
+    let left = u32::count_ones(unmet(set, met));
+    if left == 0 {
         found[4] = at as u16;
         return 0;
     }
@@ -101,7 +103,7 @@ pub(crate) fn walk_configurations(
     if fault != 0 {
         return fault;
     }
-    let more = meet(met, m[at]);
+    let more = also_met(met, m[at]);
     let next = pass(*m, at, found);
-    walk_configurations(m, next, left - 1, set, more, found)
+    walk_configurations(m, next, set, more, found)
 }

@@ -1,5 +1,5 @@
 -- What the walk keeps of the IDs: one number with a bit for each ID met.
-use Prim.Native.Nat.{ℕ, _+_}
+use Prim.Native.Nat.{ℕ, _-_}
 use mathlib.Core.Path.{_≡_}
 use mathlib.Core.List.{List}
 use mathlib.Core.Logic.{_↔_}
@@ -12,12 +12,14 @@ use Rattle.codec.specs.Table.{messageOf, row}
 use Rattle.codec.specs.Message.{setOf, blocksAt, noId, Walked, walk}
 use Rattle.codec.specs.WellFormed.{Has}
 
--- The walk over a message's blocks stands at a place, with so many of them left: the blocks before it are accepted and end there, and
+-- The walk over a message's blocks stands at a place. The blocks before it, as many as `met` has bits, are accepted and end there, and
 -- the bits of `met` are exactly their IDs.
-pub record Met (k : Column) (m : List ℕ) (at left met : ℕ) : Type 0 where
-  pub before : ℕ
+pub record Met (k : Column) (m : List ℕ) (at met : ℕ) : Type 0 where
   pub walked : Walked
-  pub accepted : walk (layouts k) (setOf m) m before noId (blocksAt (row (messageOf k) .times)) ≡ accept walked
+  pub accepted : walk (layouts k) (setOf m) m (ones met) noId (blocksAt (row (messageOf k) .times)) ≡ accept walked
   pub place : walked .end ≡ at
   pub bits : (id : ℕ) → (bit met id ≡ true) ↔ Has id (walked .blocks)
-  pub rest : before + left ≡ ones (setOf m)
+
+-- how many blocks are left
+abbrev pub blocksLeft : List ℕ → ℕ → ℕ
+blocksLeft m met = ones (setOf m) - ones met

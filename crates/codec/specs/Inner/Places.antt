@@ -14,6 +14,7 @@ use Rattle.codec.specs.Blocks.{Column, capabilities, configurations, cel
 use Rattle.codec.specs.Table.{messageLimit, assigned, messageOf, Row}
 use Rattle.codec.specs.Records.{StructOf, make, blank, accepted, answer}
 use Rattle.codec.specs.Message.{Walked, walk, idOf, setOf, blockAt, parse, reading}
+use Rattle.codec.specs.Inner.MetIds.{blocksLeft}
 use Rattle.codec.specs.Listing.{noBlock, nthFrom, nthBlock}
 use Rattle.codec.specs.declared.records.Configuration.{Configuration}
 use Rattle.codec.specs.declared.records.Record.{Record}
@@ -94,9 +95,9 @@ Finds (refuse x) at found f left = f ≡ numberOf x
 Finds (accept w) at found f left = (f ≡ 0) × (left ≡ noted (w .blocks) at found) × (getD left 4 0 ≡ w .end)
 
 -- of the blocks that are left from a place on, after those whose IDs were met; when none is left, those met are the set
-pub record FindsLeft (k : Column) (m : List ℕ) (at left met : ℕ) (found : List ℕ) (f : ℕ) (after : List ℕ) : Type 0 where
-  pub finds : Finds (walk (layouts k) (setOf m) m left (bit met) at) at found f after
-  pub all : left ≡ 0 → met ≡ setOf m
+pub record FindsLeft (k : Column) (m : List ℕ) (at met : ℕ) (found : List ℕ) (f : ℕ) (after : List ℕ) : Type 0 where
+  pub finds : Finds (walk (layouts k) (setOf m) m (blocksLeft m met) (bit met) at) at found f after
+  pub all : blocksLeft m met ≡ 0 → met ≡ setOf m
   pub size : length after ≡ 5
 
 -- a message that carries a set alone, and one with blocks

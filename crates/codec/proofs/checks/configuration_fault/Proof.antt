@@ -34,14 +34,14 @@ returns-3 c = let s = c .before .before .before .before .before .before .before 
 walk-configurations-requires : tie.Need-walk-configurations-requires
 walk-configurations-requires c κs =
     let s = c .before .before .before .before .before .before .before .before .before .before .before .pre in
-    rw (c .before .before .before .before .u16-at .ensures) (s .1, c .before .before .before .before .before .if2 .left, s .3, refl, met-none configurations _)
+    (s .1, c .before .before .before .before .before .if2 .left, s .3, c .before .before .before .before .u16-at .ensures, met-none configurations _)
 
 returns-4 : tie.Need-returns-4
-returns-4 c = body-stop _ (read (c .before .before .before .before .before .before .before .before)) (row 2) (ap row (c .before .before .before .before .before .before .before .before .before .before .before .before .before .pre .2)) (c .before .before .before .before .before .before .before .if2 .left) (agree (c .before .before .before .before)) configurations refl (rw (c .before .before .before .before .before .before .u16-at .ensures) at (c .before .walk-configurations .ensures)) (c .if4 .taken)
+returns-4 c = body-stop _ (read (c .before .before .before .before .before .before .before .before)) (row 2) (ap row (c .before .before .before .before .before .before .before .before .before .before .before .before .before .pre .2)) (c .before .before .before .before .before .before .before .if2 .left) (agree (c .before .before .before .before)) configurations refl (c .before .walk-configurations .ensures) (c .if4 .taken)
 
 returns-5 : tie.Need-returns-5
 returns-5 c =
-    body-end _ (read (c .before .before .before .before .before .before .before .before .before .before .before)) (row 2) (ap row (c .before .before .before .before .before .before .before .before .before .before .before .before .before .before .before .before .pre .2)) (c .before .before .before .before .before .before .before .before .before .before .if2 .left) (agree (c .before .before .before .before .before .before .before)) configurations refl (rw (c .before .before .before .before .before .before .before .before .before .u16-at .ensures) at (c .before .before .before .before .walk-configurations .ensures)) (c .before .before .before .if4 .left)
+    body-end _ (read (c .before .before .before .before .before .before .before .before .before .before .before)) (row 2) (ap row (c .before .before .before .before .before .before .before .before .before .before .before .before .before .before .before .before .pre .2)) (c .before .before .before .before .before .before .before .before .before .before .if2 .left) (agree (c .before .before .before .before .before .before .before)) configurations refl (c .before .before .before .before .walk-configurations .ensures) (c .before .before .before .if4 .left)
     (rw (c .before .wide .ensures) at (c .end-fault .ensures))
 
 pub configuration-fault-spec : {M : Type 1} → statement M

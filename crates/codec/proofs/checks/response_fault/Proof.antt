@@ -23,14 +23,14 @@ returns-2 c = let s = c .before .before .before .before .before .before .pre in 
 walk-capabilities-requires : tie.Need-walk-capabilities-requires
 walk-capabilities-requires c κs =
     let s = c .before .before .before .before .before .before .before .before .before .pre in
-    rw (c .before .before .u16-at .ensures) (s .1, c .before .before .before .if2 .left, s .3, refl, met-none capabilities _)
+    (s .1, c .before .before .before .if2 .left, s .3, c .before .before .u16-at .ensures, met-none capabilities _)
 
 returns-3 : tie.Need-returns-3
-returns-3 c = body-stop _ (read (c .before .before .before .before .before .before)) (row 1) (ap row (c .before .before .before .before .before .before .before .before .before .before .before .pre .2)) (c .before .before .before .before .before .if2 .left) refl capabilities refl (rw (c .before .before .before .before .u16-at .ensures) at (c .before .walk-capabilities .ensures)) (c .if3 .taken)
+returns-3 c = body-stop _ (read (c .before .before .before .before .before .before)) (row 1) (ap row (c .before .before .before .before .before .before .before .before .before .before .before .pre .2)) (c .before .before .before .before .before .if2 .left) refl capabilities refl (c .before .walk-capabilities .ensures) (c .if3 .taken)
 
 returns-4 : tie.Need-returns-4
 returns-4 c =
-    body-end _ (read (c .before .before .before .before .before .before .before .before .before)) (row 1) (ap row (c .before .before .before .before .before .before .before .before .before .before .before .before .before .before .pre .2)) (c .before .before .before .before .before .before .before .before .if2 .left) refl capabilities refl (rw (c .before .before .before .before .before .before .before .u16-at .ensures) at (c .before .before .before .before .walk-capabilities .ensures)) (c .before .before .before .if3 .left)
+    body-end _ (read (c .before .before .before .before .before .before .before .before .before)) (row 1) (ap row (c .before .before .before .before .before .before .before .before .before .before .before .before .before .before .pre .2)) (c .before .before .before .before .before .before .before .before .if2 .left) refl capabilities refl (c .before .before .before .before .walk-capabilities .ensures) (c .before .before .before .if3 .left)
     (rw (c .before .wide .ensures) at (c .end-fault .ensures))
 
 pub response-fault-spec : {M : Type 1} → statement M
