@@ -22,7 +22,7 @@ use codec::refusal::BUFFER_TOO_SHORT;
 pub const POSITION_LIMIT: usize = 2560;
 
 // The counters after some positions were told, and how many octets of the buffer are their lines.
-#[derive(Drop)]
+#[derive(Clone, Copy)]
 pub struct Compared {
     pub kinds: Kinds,
     pub length: usize,

@@ -6,7 +6,7 @@ use crate::layout::take_apart;
 use codec::MESSAGE_LIMIT;
 
 // What is listed of a record: its direction, and its message's ID and set; or the number of its refusal, with ID and set 0.
-#[derive(Drop)]
+#[derive(Clone, Copy)]
 pub struct Entry {
     pub direction: u8,
     pub refusal: u8,

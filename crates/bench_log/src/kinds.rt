@@ -16,7 +16,7 @@ pub(crate) const ONLY_LEFT: u8 = 3;
 pub(crate) const ONLY_RIGHT: u8 = 4;
 
 // How many positions there were, and how many of each kind. The counters start again from 0 after 2^64 - 1.
-#[derive(Drop)]
+#[derive(Clone, Copy)]
 pub struct Kinds {
     pub positions: u64,
     pub pairs: u64,

@@ -9,7 +9,7 @@ use codec::refusal::BROKEN_RECORD;
 pub const RECORD_SIZE: usize = 4 + MESSAGE_LIMIT;
 
 // A record taken apart: its direction, and how many octets after the head are its message; or the number of its refusal, and 0.
-#[derive(Drop)]
+#[derive(Clone, Copy)]
 pub struct Parts {
     pub refusal: u8,
     pub direction: u8,

@@ -16,7 +16,7 @@ use codec::refusal::BUFFER_TOO_SHORT;
 pub const LINE_LIMIT: usize = 35;
 
 // The totals after some records were listed, and how many octets of the buffer are their lines.
-#[derive(Drop)]
+#[derive(Clone, Copy)]
 pub struct Listed {
     pub totals: Totals,
     pub length: usize,

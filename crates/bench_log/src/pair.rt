@@ -15,7 +15,7 @@ use crate::text::{put_number, put_text};
 use codec::MESSAGE_LIMIT;
 
 // What is seen of a record: its direction and its refusal, and if it is accepted where its message ends and its blocks begin.
-#[derive(Drop)]
+#[derive(Clone, Copy)]
 pub(crate) struct Seen {
     direction: u8,
     refusal: u8,
@@ -24,7 +24,7 @@ pub(crate) struct Seen {
 }
 
 // The place after the lines of a pair, and its kind.
-#[derive(Drop)]
+#[derive(Clone, Copy)]
 pub(crate) struct Said {
     pub end: usize,
     pub kind: u8,

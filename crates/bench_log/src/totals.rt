@@ -6,7 +6,7 @@ ghost use Rattle.bench_log.specs.Totals.{counted};
 use crate::entry::Entry;
 
 // The counters start again from 0 after 2^64 - 1.
-#[derive(Drop)]
+#[derive(Clone, Copy)]
 pub struct Totals {
     pub records: u64,
     pub accepted: u64,

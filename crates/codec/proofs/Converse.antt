@@ -47,6 +47,7 @@ each_both P Q [] h k = tt
 each_both P Q (b ∷ blocks) h k = ((h.0, k.0), each_both P Q blocks h.1 k.1)
 
 has_above : (k id : ℕ) (blocks : List (List ℕ)) → Each (λ c. k < get_or c 0 0) blocks → Has id blocks → k < id
+has_above k id [] h x = elim x [ ]
 has_above k id (b ∷ blocks) h (this e) = omega (arith, h.0)
 has_above k id (b ∷ blocks) h (later r) = has_above k id blocks h.1 r
 
@@ -93,6 +94,7 @@ module _ (k : Column) (set : ℕ) where
   -- the fields of a technology that has a block
   there_valid : (t : Technology) (blocks : List (List ℕ)) → Each Octets blocks → Each (Whole (layouts k) set) blocks → Has (technology_id t) blocks
       → Typed (cell k t) (fields_in (cell k t) (technology_id t) blocks) × (valid_fields (cell k t) true (fields_in (cell k t) (technology_id t) blocks) ≡ true)
+  there_valid t [] o w h = elim h [ ]
   there_valid t (b ∷ blocks) o w h =
       by_bool (eqb (get_or b 0 0) (technology_id t))
       (λ y. rw y (block_valid t b (eqb-true _ _ y) o.0 w.0))
@@ -148,6 +150,7 @@ Of id [] = ⊥
 Of id (t ∷ others) = (technology_id t ≡ id) ⊎ Of id others
 
 of_above : (x id : ℕ) (ts : List Technology) → Each (λ u. x < technology_id u) ts → Of id ts → x < id
+of_above x id [] h o = elim o [ ]
 of_above x id (t ∷ others) h (inl e) = omega (arith, h.0)
 of_above x id (t ∷ others) h (inr o) = of_above x id others h.1 o
 

@@ -111,6 +111,7 @@ ones_part set part h k w = omega (arith, count_under 16 set h, count_under 16 pa
 -- ---- the block of an ID
 
 pub has_some : (id : ℕ) (blocks : List (List ℕ)) → Has id blocks → 0 < length blocks
+has_some id [] h = elim h [ ]
 has_some id (b ∷ blocks) (this e) = omega arith
 has_some id (b ∷ blocks) (later h) = omega arith
 

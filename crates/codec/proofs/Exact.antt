@@ -21,7 +21,7 @@ use Rattle.codec.proofs.Laws.{beyond, room, back_le, forth_le}
 use Rattle.codec.proofs.Outcomes.{by_bool, no_zero, and_true_lem, or_true_lem, demanded}
 use Rattle.codec.proofs.Rows.{times_one, times_two}
 use Rattle.codec.proofs.Walks.{fresh_no_id, walked, walks}
-use Rattle.codec.proofs.Found.{parsed}
+use Rattle.codec.proofs.FoundLemmas.{parsed}
 
 -- ---- the head and the sets
 

@@ -14,12 +14,6 @@ use Rattle.codec.specs.Octets.{Octets, all_zero, part, of_le, to_le}
 
 -- ---- from an `if !test(..)` to the test's meaning
 
-pub failed : {r t : Bool} → r ≡ t → not r ≡ true → t ≡ false
-failed {r} e n = sym e ∙ not-true r n
-
-pub passed : {r t : Bool} → r ≡ t → not r ≡ false → t ≡ true
-passed {r} e n = sym e ∙ not-false r n
-
 -- ---- parts of lists
 
 pub part_length : (at n : ℕ) (s : List ℕ) → at + n ≤ length s → length (part at n s) ≡ n
@@ -84,17 +78,9 @@ number_zero (suc w) s i h =
     rw (next_zero s i (omega arith), number_zero w s (i + 1) (omega arith), end, sum_zero (get_or s i 0) (of_le (suc w) (i + 1) s))
     (sym (and_assoc (eqb (get_or s i 0) 0) (eqb (of_le (suc w) (i + 1) s) 0) (all_zero (drop (i + suc (suc w)) s))))
 
--- what `bytes::copy` leaves in n zeros, given the k octets from a place on
-pub copied : (s : List ℕ) (at k n : ℕ) → at + k ≤ length s
-    → take (length (part at (at + k - at) s)) (part at (at + k - at) s) ++ drop (length (part at (at + k - at) s)) (replicate n 0) ≡ part at k s ++ replicate (n - k) 0
-copied s at k n fits =
-    let l : length (part at k s) ≡ k = part_length at k s fits in
-    rw (add-sub_cancel_left at k, l, drop_zeros) (ap (λ (x : List ℕ). x ++ replicate (n - k) 0) (take_all k (part at k s) (omega arith)))
-
--- the same where they fill all of the zeros
-pub copied_all : (s : List ℕ) (at n : ℕ) → at + n ≤ length s
-    → take (length (part at (at + n - at) s)) (part at (at + n - at) s) ++ drop (length (part at (at + n - at) s)) (replicate n 0) ≡ part at n s
-copied_all s at n fits = copied s at n n fits ∙ ap (λ (j : ℕ). part at n s ++ replicate j 0) (sub_self n) ∙ append-nil (part at n s)
+-- n zeros whose first k octets became those from a place on
+pub copied : (s e : List ℕ) (at k n : ℕ) → e ≡ take (at + k - at) (drop at s) → e ++ drop k (replicate n 0) ≡ part at k s ++ replicate (n - k) 0
+copied s e at k n h = rw (h, add-sub_cancel_left at k, drop_zeros)
 
 -- ---- numbers
 

@@ -13,12 +13,13 @@ pub mod Risings
 pub mod WalkCases
 pub mod Walks
 pub mod MetIds
+pub mod WalkTurns
 pub mod Rows
 pub mod MessageCases
 pub mod ValidCases
 pub mod Pieces
-pub mod Found
-pub mod Heard
+pub mod FoundLemmas
+pub mod HeardLemmas
 pub mod Listed
 pub mod Exact
 pub mod ReadBack

@@ -12,7 +12,7 @@ use Rattle.codec.specs.Listing.{no_block, nth_from, listed, nth_block}
 use Rattle.codec.specs.Inner.Places.{number_in, set_alone, Passes, NthPlace, Lists}
 use Rattle.codec.proofs.Outcomes.{by_number, chained}
 use Rattle.codec.proofs.WalkCases.{Sound, sound}
-use Rattle.codec.proofs.Found.{parsed, four}
+use Rattle.codec.proofs.FoundLemmas.{parsed, four}
 
 -- ---- one turn of the listing
 

@@ -26,6 +26,7 @@ use Rattle.codec.proofs.Walks.{Lies, walked}
 -- ---- one block more at the end
 
 has_before : {id : ℕ} (blocks : List (List ℕ)) (b : List ℕ) → Has id blocks → Has id (blocks ++ (b ∷ []))
+has_before {id = id} [] b h = elim h [ ]
 has_before (c ∷ blocks) b (this e) = this e
 has_before (c ∷ blocks) b (later h) = later (has_before blocks b h)
 
@@ -35,6 +36,7 @@ has_last (c ∷ blocks) b e = later (has_last blocks b e)
 
 has_either : {id : ℕ} (blocks : List (List ℕ)) (b : List ℕ) → Has id (blocks ++ (b ∷ [])) → Has id blocks ⊎ (get_or b 0 0 ≡ id)
 has_either [] b (this e) = inr e
+has_either {id = id} [] b (later h) = elim h [ ]
 has_either (c ∷ blocks) b (this e) = inl (this e)
 has_either (c ∷ blocks) b (later h) = ⊎_elim (λ r. inl (later r)) (λ e. inr e) (has_either blocks b h)
 
@@ -74,6 +76,7 @@ module _ (layouts : ℕ → Layout) (set : ℕ) (m : List ℕ) where
   walk_start (suc n) came at w e l = chained (block_fault layouts set m came at) _ w e λ t a d. omega (arith, (sound layouts set m came at a).two)
 
 has_named : (layouts : ℕ → Layout) (set : ℕ) {id : ℕ} (blocks : List (List ℕ)) → Each (Whole layouts set) blocks → Has id blocks → bit set id ≡ true
+has_named layouts set {id = id} [] w h = elim h [ ]
 has_named layouts set (b ∷ blocks) w (this e) = rw (← e) w.0.named
 has_named layouts set (b ∷ blocks) w (later h) = has_named layouts set blocks w.1 h
 

@@ -3,7 +3,7 @@ use Prim.Native.Nat.{ℕ, ◌+◌, ◌≤◌, ◌<◌}
 use native.Mathlib.Omega.{arith}
 use mathlib.Core.Path.{◌≡◌, refl, sym, ap, ◌∙◌}
 use mathlib.Core.Option.{Option}
-use mathlib.Core.Bool.{Bool, true, false, ◌&&◌, cond, and_true_lem as with-true}
+use mathlib.Core.Bool.{Bool, true, false, ◌&&◌, cond, and-true as with-true}
 use mathlib.Core.List.{List, [], ◌∷◌, ◌++◌, flatten}
 use lib.Dec.{eqb}
 use lib.ListN.{length}

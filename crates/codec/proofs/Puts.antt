@@ -12,6 +12,7 @@ use Rattle.codec.specs.Octets.{to_le}
 use Rattle.codec.specs.Technology.{Technology, technology_id, names}
 use Rattle.codec.specs.Layout.{Layout, number, octets, counted, Values, Typed, write}
 use Rattle.codec.specs.Blocks.{Column, cell}
+use borrow.Rule.Slice.PartMut.{put_mid}
 use Rattle.codec.specs.Inner.Puts.{over, Put, block_if, fields_size, block_size, chain, chain_size, Held}
 use Rattle.codec.proofs.Laws.{long_le}
 
@@ -56,16 +57,11 @@ unfolding over
 put_one d at x h = put_over d at (x ∷ []) (set d at x) (at + 1) (omega arith) (rw add-one (set_split d at x h)) refl
 
 -- all octets of a slice, lent a part of the buffer
-pub put_part : (d s e : List ℕ) (at : ℕ) → at + length s ≤ length d
-    → e ≡ take at d ++ ((take (length s) s ++ drop (length s) (take (at + length s - at) (drop at d))) ++ drop (at + length s - at) (drop at d)) → Put d at s e (at + length s)
+pub put_part : (d s e : List ℕ) (at : ℕ) → at + length s ≤ length d → e ≡ s → Put d at s (put_mid at (at + length s - at) d e) (at + length s)
 unfolding over
 put_part d s e at h w =
     let n : at + length s - at ≡ length s = omega arith in
-    let t : length (take (length s) (drop at d)) ≡ length s = simp (length-take, length-drop) (omega arith) in
-    let z : drop (length s) (take (length s) (drop at d)) ≡ [] = drop_of_length-le (take (length s) (drop at d)) {i = length s} (omega arith) in
-    put_over d at s e (at + length s) h
-    (w ∙ rw (n, z, take-length s, append-nil s, drop-drop (length s) at d))
-    refl
+    put_over d at s _ (at + length s) h (rw (w, n, drop-drop (length s) at d)) refl
 
 -- four octets are twice two
 pub four_octets : (x : ℕ) → to_le 2 (x % 65536) ++ to_le 2 (x / 65536) ≡ to_le 4 x
@@ -78,15 +74,12 @@ four_octets x =
 
 -- a block that is there, and one that is not
 module _ (present : Bool) where
-  pub put_block : {d e : List ℕ} {at next : ℕ} (L : Layout) (id size : ℕ) (v : Values L) → not present ≡ false → size ≡ 2 + length (write L v)
+  pub put_block : {d e : List ℕ} {at next : ℕ} (L : Layout) (id size : ℕ) (v : Values L) → present ≡ true → size ≡ 2 + length (write L v)
       → Put d at (id ∷ (size ∷ write L v)) e next → Put d at (block_if present L id v) e next
-  put_block L id size v h n p = rw (not-false present h, ← n) p
+  put_block L id size v h n p = rw (h, ← n) p
 
-  pub put_absent : (d : List ℕ) (at size : ℕ) (L : Layout) (id : ℕ) (v : Values L) → not present ≡ true → at + cond present size 0 ≤ length d → Put d at (block_if present L id v) d at
-  put_absent d at size L id v h l = rw (not-true present h) (put_none d at (omega arith))
-
-  pub room_present : (size room at : ℕ) → not present ≡ false → at + cond present size 0 ≤ room → at + size ≤ room
-  room_present size room at h l = rw (not-false present h) at l
+  pub put_absent : (d : List ℕ) (at size : ℕ) (L : Layout) (id : ℕ) (v : Values L) → present ≡ false → at + cond present size 0 ≤ length d → Put d at (block_if present L id v) d at
+  put_absent d at size L id v h l = rw h (put_none d at (omega arith))
 
 -- ---- how many octets are written
 

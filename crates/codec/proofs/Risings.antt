@@ -108,6 +108,7 @@ module _ (k : Column) (v : (t : Technology) → Values (cell k t)) (set : ℕ) w
 
   -- a block of an ID is written only if the set names its technology, and then always
   pub rising_named : (id : ℕ) (ts : List Technology) → Has id (Rest ts) → (u : Technology) × ((technology_id u ≡ id) × (names set u ≡ true))
+  rising_named id [] h = elim h [ ]
   rising_named id (t ∷ others) h = go (names set t) refl h (rising_named id others)
     where
       go : (b : Bool) → names set t ≡ b → Has id (cond b (BlockOf t ∷ Rest others) (Rest others)) → (Has id (Rest others) → (u : Technology) × ((technology_id u ≡ id) × (names set u ≡ true))) → (u : Technology) × ((technology_id u ≡ id) × (names set u ≡ true))

@@ -54,8 +54,8 @@ each_octet (x ∷ l) (u ∷ us) h zero = omega (arith, h.0.1)
 each_octet (x ∷ l) (u ∷ us) h (suc i) = each_octet l us h.1 i
 
 -- a field that is an array
-array : (n : ℕ) (l : List ℕ) (vs : List Val) → Is (Array u8 n) (map (λ (x : ℕ). x) l) vs → (length l ≡ n) × Octets l
-array n l vs h = let k = rw (map-id l) at h in (k.1.0.1, each_octet l k.0 k.1.1)
+array : (n : ℕ) (l : List ℕ) (vs : List Val) → Is (Array u8 n) l vs → (length l ≡ n) × Octets l
+array n l vs h = (h.1.0.1, each_octet l h.0 h.1.1)
 
 module _ (vs : List Val) where
   uwb_capability_lem : (x : UwbCapability) → Is UC.the_row x vs → Typed uwb_capability (of_uwb_capability x)

@@ -29,6 +29,7 @@ pub(crate) fn head_fault(m: &[u8]) -> u8
 }
 
 // Whether a version of a message is read.
+#[tactic(auto, unfolding(crate::specs::Table::readable))]
 fn readable(version: u8, id: u8) -> bool
     ensures { result ≡ readable version id }
 {
@@ -39,6 +40,7 @@ fn readable(version: u8, id: u8) -> bool
 }
 
 // The rule for the end of the message, from the place after its known part.
+#[tactic(auto, unfolding(crate::specs::Message::end_fault))]
 fn end_fault(m: &[u8], end: usize) -> u8
     requires { 4 ≤ length m.now }
     ensures { result ≡ number_in (end_fault m.now end) }

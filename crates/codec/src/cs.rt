@@ -13,14 +13,14 @@ use crate::sizes::{block_octets, size_fault};
 use crate::technology::CS;
 
 #[repr(C)]
-#[derive(Drop)]
+#[derive(Clone, Copy)]
 pub struct CsCapability {
     pub security_types: u8,
     pub address: [u8; 6],
 }
 
 #[repr(C)]
-#[derive(Drop)]
+#[derive(Clone, Copy)]
 pub struct CsConfiguration {
     pub security_level: u8,
     pub address: [u8; 6],

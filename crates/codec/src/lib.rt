@@ -1,4 +1,6 @@
 // The message format of Android Ranging out-of-band, version 1: records, their reader and their writer.
+#![tactic(auto)]
+
 mod blocks;
 mod checks;
 mod cs;

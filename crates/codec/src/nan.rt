@@ -13,7 +13,7 @@ use crate::sizes::{block_octets, size_fault};
 use crate::technology::NAN;
 
 #[repr(C)]
-#[derive(Drop)]
+#[derive(Clone, Copy)]
 pub struct NanCapability {
     pub features: u8,
     pub periodic: u8,
@@ -22,7 +22,7 @@ pub struct NanCapability {
 }
 
 #[repr(C)]
-#[derive(Drop)]
+#[derive(Clone, Copy)]
 pub struct NanConfiguration {
     pub name_length: u8,
     pub name: [u8; 64],

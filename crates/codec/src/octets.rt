@@ -4,6 +4,7 @@ ghost use Rattle.codec.specs.Octets.{all_zero, part, of_le, to_le};
 ghost use Rattle.codec.specs.Layout.{inside};
 ghost use Rattle.codec.specs.Inner.Puts.{Put};
 
+#[tactic(auto, unfolding(crate::specs::Layout::inside))]
 pub(crate) fn inside(low: u8, high: u8, x: u8) -> bool
     ensures { result ≡ inside low high x }
 {
@@ -65,7 +66,7 @@ pub(crate) fn pair_at(s: &[u8], at: usize) -> [u8; 2]
     ensures { result ≡ part at 2 s.now }
 {
     let mut out = [0u8; 2];
-    bytes::copy(&s[at..at + 2], &mut out);
+    out.copy_from_slice(&s[at..at + 2]);
     out
 }
 
@@ -75,7 +76,7 @@ pub(crate) fn address_at(s: &[u8], at: usize) -> [u8; 6]
     ensures { result ≡ part at 6 s.now }
 {
     let mut out = [0u8; 6];
-    bytes::copy(&s[at..at + 6], &mut out);
+    out.copy_from_slice(&s[at..at + 6]);
     out
 }
 
@@ -85,7 +86,7 @@ pub(crate) fn key_at(s: &[u8], at: usize, k: usize) -> [u8; 32]
     ensures { result ≡ part at k s.now ++ replicate (32 - k) 0 }
 {
     let mut out = [0u8; 32];
-    bytes::copy(&s[at..at + k], &mut out);
+    out[..k].copy_from_slice(&s[at..at + k]);
     out
 }
 
@@ -95,7 +96,7 @@ pub(crate) fn name_at(s: &[u8], at: usize, n: usize) -> [u8; 64]
     ensures { result ≡ part at n s.now ++ replicate (64 - n) 0 }
 {
     let mut out = [0u8; 64];
-    bytes::copy(&s[at..at + n], &mut out);
+    out[..n].copy_from_slice(&s[at..at + n]);
     out
 }
 
@@ -174,7 +175,7 @@ fn put_all(out: &mut [u8], at: usize, s: &[u8]) -> usize
     ensures { Put out.old at s.now out.new result }
 {
     let end = at + s.len();
-    bytes::copy(s, &mut out[at..end]);
+    out[at..end].copy_from_slice(s);
     end
 }
 

@@ -14,7 +14,7 @@ use crate::uwb::{
 
 // What the blocks of message 1 say. An absent technology's fields are zero.
 #[repr(C)]
-#[derive(Drop)]
+#[derive(Clone, Copy)]
 pub struct Capability {
     pub uwb: UwbCapability,
     pub cs: CsCapability,
@@ -24,7 +24,7 @@ pub struct Capability {
 
 // What the blocks of message 2 say. An absent technology's fields are zero.
 #[repr(C)]
-#[derive(Drop)]
+#[derive(Clone, Copy)]
 pub struct Configuration {
     pub uwb: UwbConfiguration,
     pub cs: CsConfiguration,
@@ -34,7 +34,7 @@ pub struct Configuration {
 
 // A message without its version: its ID, its technology set (bit n for ID n), and what its blocks say.
 #[repr(C)]
-#[derive(Drop)]
+#[derive(Clone, Copy)]
 pub struct Record {
     pub id: u8,
     pub set: u16,
@@ -43,7 +43,7 @@ pub struct Record {
 }
 
 // A message that carries a set and nothing else.
-#[derive(Drop)]
+#[derive(Clone, Copy)]
 pub enum SetMessage {
     Request,
     ConfigurationResponse,
@@ -53,7 +53,7 @@ pub enum SetMessage {
 
 // A refusal's number and an all-zero record, or 0 and the record.
 #[repr(C)]
-#[derive(Drop)]
+#[derive(Clone, Copy)]
 pub struct Reading {
     pub refusal: u8,
     pub value: Record,
@@ -62,7 +62,7 @@ pub struct Reading {
 // What a tag hears: the reader's refusal, ID and set, and where the settings of a Configuration stand in the message; 0 for other
 // messages.
 #[repr(C)]
-#[derive(Drop)]
+#[derive(Clone, Copy)]
 pub struct Heard {
     pub refusal: u8,
     pub id: u8,
@@ -74,7 +74,7 @@ pub struct Heard {
 }
 
 // The number of a message's first fault, or 0 and places at which reading gives its record.
-#[derive(Drop)]
+#[derive(Clone, Copy)]
 pub struct Found {
     pub fault: u8,
     pub places: [u16; 5],
@@ -82,7 +82,7 @@ pub struct Found {
 
 // A block of a message: its place, its ID and its size. All zero for none.
 #[repr(C)]
-#[derive(Drop)]
+#[derive(Clone, Copy)]
 pub struct Block {
     pub place: usize,
     pub id: u8,
@@ -91,7 +91,7 @@ pub struct Block {
 
 // A refusal's number and 0 octets, or 0 and how many octets were written.
 #[repr(C)]
-#[derive(Drop)]
+#[derive(Clone, Copy)]
 pub struct Written {
     pub refusal: u8,
     pub length: usize,

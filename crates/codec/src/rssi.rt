@@ -12,7 +12,7 @@ use crate::sizes::size_fault;
 use crate::technology::RSSI;
 
 #[repr(C)]
-#[derive(Drop)]
+#[derive(Clone, Copy)]
 pub struct Rssi {
     pub address: [u8; 6],
 }

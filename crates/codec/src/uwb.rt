@@ -17,35 +17,35 @@ use crate::sizes::{block_octets, size_fault};
 use crate::technology::UWB;
 
 #[repr(C)]
-#[derive(Drop)]
+#[derive(Clone, Copy)]
 pub struct Channel(pub u8);
 
 #[repr(C)]
-#[derive(Drop)]
+#[derive(Clone, Copy)]
 pub struct PreambleIndex(pub u8);
 
 #[repr(C)]
-#[derive(Drop)]
+#[derive(Clone, Copy)]
 pub struct ConfigId(pub u8);
 
 // Bit n for channel n.
 #[repr(C)]
-#[derive(Drop)]
+#[derive(Clone, Copy)]
 pub struct Channels(pub u32);
 
 // Bit n for preamble index n + 1.
 #[repr(C)]
-#[derive(Drop)]
+#[derive(Clone, Copy)]
 pub struct PreambleIndexes(pub u32);
 
 // Bit n for config ID n.
 #[repr(C)]
-#[derive(Drop)]
+#[derive(Clone, Copy)]
 pub struct ConfigIds(pub u32);
 
 // Intervals and slots are in ms.
 #[repr(C)]
-#[derive(Drop)]
+#[derive(Clone, Copy)]
 pub struct UwbCapability {
     pub address: [u8; 2],
     pub channels: Channels,
@@ -57,7 +57,7 @@ pub struct UwbCapability {
 }
 
 #[repr(C)]
-#[derive(Drop)]
+#[derive(Clone, Copy)]
 pub struct UwbConfiguration {
     pub address: [u8; 2],
     pub session_id: u32,
@@ -73,18 +73,21 @@ pub struct UwbConfiguration {
     pub mode: u8,
 }
 
+#[tactic(auto, unfolding(crate::specs::Layout::member))]
 fn allowed_interval(x: u16) -> bool
     ensures { result ≡ test interval x }
 {
     (x == 96) | (x == 120) | (x == 240) | (x == 600)
 }
 
+#[tactic(auto, unfolding(crate::specs::Layout::member))]
 fn allowed_key_length(x: u8) -> bool
     ensures { result ≡ test allowed_key_length x }
 {
     (x == 8) | (x == 16) | (x == 32)
 }
 
+#[tactic(auto, unfolding(crate::specs::Layout::two_letters))]
 fn two_letters(pair: [u8; 2]) -> bool
     ensures { result ≡ two_letters (get_or pair 0 0) (get_or pair 1 0) }
 {
@@ -92,6 +95,7 @@ fn two_letters(pair: [u8; 2]) -> bool
 }
 
 // 00 stands for a country that is not known.
+#[tactic(auto, unfolding(crate::specs::Layout::unknown_country))]
 fn allowed_country(pair: [u8; 2]) -> bool
     ensures { result ≡ spelled country pair }
 {

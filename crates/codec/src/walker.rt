@@ -3,7 +3,7 @@
 ghost use Rattle.std.specs.Prelude.{◌≡◌, ◌+◌, ◌≤◌, length};
 ghost use Rattle.codec.specs.Message.{place_after};
 
-#[derive(Drop)]
+#[derive(Clone, Copy)]
 struct Walker<'a> {
     message: &'a [u8],
     at: usize,

@@ -14,7 +14,7 @@ const PIECE_SIZE: usize = RECORDS * RECORD_SIZE;
 const TEXT_SIZE: usize = RECORDS * POSITION_LIMIT;
 
 // What was read of both: how many octets, and whether a read failed.
-#[derive(Drop)]
+#[derive(Clone, Copy)]
 struct Pieces {
     left: usize,
     right: usize,
@@ -23,7 +23,7 @@ struct Pieces {
 
 // The counters so far, the logs, which are missing when they have ended, the octets of their partial last records, and whether all went
 // well.
-#[derive(Drop)]
+#[derive(Clone, Copy)]
 struct Turn {
     kinds: Kinds,
     left: i32,

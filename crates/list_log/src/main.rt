@@ -12,7 +12,7 @@ const TEXT_SIZE: usize = RECORDS * LINE_LIMIT;
 const STANDARD_INPUT: i32 = 0;
 
 // The totals so far, and whether the log goes on.
-#[derive(Drop)]
+#[derive(Clone, Copy)]
 struct Turn {
     totals: Totals,
     more: bool,

@@ -9,14 +9,14 @@ use libc::{ENOENT, STDOUT_FILENO};
 pub const MISSING: i32 = -1;
 
 // A descriptor or `MISSING`, and whether the file is there and cannot be opened.
-#[derive(Drop)]
+#[derive(Clone, Copy)]
 pub struct Opened {
     pub file: i32,
     pub failed: bool,
 }
 
 // How many octets were read, fewer than the piece has where the log ends, and whether a read failed.
-#[derive(Drop)]
+#[derive(Clone, Copy)]
 pub struct Got {
     pub length: usize,
     pub failed: bool,

@@ -10,7 +10,7 @@ use codec::{
 
 // What the tag can do, with the choice of explicit replies: 0 not said, which means off, 1 on, 2 off.
 #[repr(C)]
-#[derive(Drop)]
+#[derive(Clone, Copy)]
 pub struct Profile {
     pub set: u16,
     pub replies: u8,
@@ -19,21 +19,21 @@ pub struct Profile {
 
 // Whether a technology is ranging, 0 no and anything else yes, and its settings in force; zero if it is not.
 #[repr(C)]
-#[derive(Drop)]
+#[derive(Clone, Copy)]
 pub struct UwbState {
     pub ranging: u8,
     pub settings: UwbConfiguration,
 }
 
 #[repr(C)]
-#[derive(Drop)]
+#[derive(Clone, Copy)]
 pub struct NanState {
     pub ranging: u8,
     pub settings: NanConfiguration,
 }
 
 #[repr(C)]
-#[derive(Drop)]
+#[derive(Clone, Copy)]
 pub struct RssiState {
     pub ranging: u8,
     pub settings: Rssi,
@@ -41,7 +41,7 @@ pub struct RssiState {
 
 // The mark, 0 no and anything else yes: a Stop has ended UWB ranging since UWB's capabilities were last given out.
 #[repr(C)]
-#[derive(Drop)]
+#[derive(Clone, Copy)]
 pub struct Session {
     pub profile: Profile,
     pub uwb: UwbState,
@@ -52,7 +52,7 @@ pub struct Session {
 
 // A refusal's number, length 0 and two empty sets, or 0, the reply's length, what the call set and what it stopped.
 #[repr(C)]
-#[derive(Drop)]
+#[derive(Clone, Copy)]
 pub struct Answer {
     pub refusal: u8,
     pub length: usize,
@@ -62,7 +62,7 @@ pub struct Answer {
 
 // The session after a call, and the call's answer.
 #[repr(C)]
-#[derive(Drop)]
+#[derive(Clone, Copy)]
 pub struct Step {
     pub session: Session,
     pub answer: Answer,
@@ -70,7 +70,7 @@ pub struct Step {
 
 // A refusal's number and a fresh session with an empty profile, or 0 and a fresh session with the profile.
 #[repr(C)]
-#[derive(Drop)]
+#[derive(Clone, Copy)]
 pub struct Started {
     pub session: Session,
     pub refusal: u8,

@@ -3,7 +3,7 @@ use Rattle.codec.specs.Technology.{known}
 use Rattle.codec.specs.Blocks.{Column, capabilities, configurations}
 use Rattle.codec.specs.Table.{message_of}
 use Rattle.codec.specs.Message.{id_of, set_of}
-use Rattle.codec.proofs.Found.{reads_refused, response_found, configuration_found, set_found}
+use Rattle.codec.proofs.FoundLemmas.{reads_refused, response_found, configuration_found, set_found}
 use Prim.Native.Nat.{ℕ, ◌%◌}
 use mathlib.Core.List.{List}
 use lib.ListN.{get_or}

@@ -1,0 +1,6 @@
+use mathlib.Core.Path.{sym}
+use Rattle.codec.proofs.ValidCases.{response_valid}
+use Rattle.codec.proofs.validity.valid_response.Goals as goal
+
+pub returns : goal.returns
+returns c = rw c.valid_capability.ensures (sym (response_valid c.args.set c.args.c))
