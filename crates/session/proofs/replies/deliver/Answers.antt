@@ -1,6 +1,7 @@
 use borrow.Author.Tests.{eq-eqb}
+use native.Mathlib.Omega.{arith}
 use Rattle.session.proofs.Steps.{set_delivered}
 use Rattle.session.proofs.replies.deliver.Goals as goal
 
 pub returns : goal.returns
-returns c = rw (eq-eqb c.args.replies 1 c.if-replies-ne1.false) (set_delivered c.args.message c.requires c.write_set.ensures)
+returns c = rw (eq-eqb c.args.replies 1 (omega arith)) (set_delivered c.args.message c.requires c.write_set.ensures)
