@@ -16,7 +16,7 @@ both() {
     cargo build --quiet --release --manifest-path host/Cargo.toml --package "$2"
     proved=$PWD/target/bin/$1
     second=$PWD/host/target/release/$2
-    [ -x "$proved" ] || fail "$proved is missing: run rt check $1"
+    [ -x "$proved" ] || fail "$proved is missing: ./raydulcimer list and ./raydulcimer compare build it"
 }
 
 # case_of NAME: makes its folder, with nothing on standard input
