@@ -1,0 +1,4 @@
+pub mod Beside
+pub mod ByReference
+pub mod Locals
+pub mod Session
