@@ -1,4 +1,6 @@
 // The library's calls for C and Rust.
+#![tactic(auto)]
+
 ghost use Rattle.std.specs.Prelude.{◌≡◌};
 ghost use Rattle.codec.specs.Listing.{nth_block};
 ghost use Rattle.codec.specs.Message.{Reads};

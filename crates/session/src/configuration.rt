@@ -42,6 +42,7 @@ fn eligible_nan(s: Session, h: Heard, m: &[u8]) -> bool
     within_nan(s.profile.capability.nan, codec::nan_settings(m, h.nan))
 }
 
+#[tactic(auto, unfolding(crate::specs::Rules::eligible))]
 fn eligible_rssi(s: Session, h: Heard, m: &[u8]) -> bool
     ensures { result ≡ eligible s.profile h.set (settings_at h m.now) (on_session.barred s) rssi }
 {

@@ -1,4 +1,6 @@
 // The tag's session: a profile, what ranges, and the calls that alter it.
+#![tactic(auto)]
+
 mod calls;
 mod configuration;
 mod replies;

@@ -6,6 +6,7 @@ ghost use Rattle.session.specs.Inner.Replies.{Delivers, settle};
 use crate::state::{Answer, Profile};
 use codec::{SetMessage, Written, set_if};
 
+#[tactic(auto, unfolding(crate::specs::Rules::valid_profile))]
 pub(crate) fn valid_profile(p: Profile) -> bool
     ensures { result ≡ valid_profile p }
 {

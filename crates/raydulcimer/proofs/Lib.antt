@@ -1,4 +1,0 @@
-pub mod Beside
-pub mod ByReference
-pub mod Locals
-pub mod Session
