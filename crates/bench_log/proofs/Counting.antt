@@ -20,9 +20,9 @@ zero_accepted : (r : List ℕ) → eqb (entry_of r).refusal 0 ≡ is_accepted (r
 unfolding entry_of
 zero_accepted r = by_zero (reading_of r)
 
-pub one_more : (t : Totals) (r : List ℕ) → (next_totals t r).records ≡ one_more t.records
+pub one_more_record : (t : Totals) (r : List ℕ) → (next_totals t r).records ≡ one_more t.records
 unfolding counted
-one_more t r = refl
+one_more_record t r = refl
 
 pub counting : (rs : List (List ℕ)) → length rs < 2 ^ 64 → counters_after next_totals no_records rs ≡ totals rs
 unfolding counted

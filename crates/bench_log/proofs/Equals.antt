@@ -1,7 +1,7 @@
 -- Two lists of octets are the same, and two contents are alike, exactly if they are equal.
 use Rattle.std.proofs.Common.{◌≡◌, ℕ, zero, suc, ◌<◌, true, false, ◌&&◌, eqb, List, [], ◌∷◌, length, get_or, take, sym, refl, ap, true≢false, arith, eq-eqb, eqb-true}
 use mathlib.Core.Bool.{and_assoc}
-use mathlib.Core.Bool.{and_true_lem as and_right}
+use mathlib.Core.Bool.{and-true as and_right}
 use Rattle.codec.proofs.Outcomes.{by_bool, and_true_lem}
 use Rattle.bench_log.specs.Fields.{Contents, amount, string}
 use Rattle.bench_log.specs.Comparison.{same, alike}

@@ -1,8 +1,8 @@
 -- Walking over a layout that is held as octets, and over two blocks with it.
-use Rattle.std.proofs.Common.{◌≡◌, ℕ, suc, ◌+◌, ◌-◌, ◌*◌, ◌%◌, ◌<◌, ◌≤◌, true, ◌&&◌, ◌||◌, leb, List, [], ◌∷◌, ◌++◌, length, get_or, drop, sym, refl, ap, ◌∙◌, subst, append_assoc, append-nil, add_assoc, arith, length-drop, get_or-drop, drop-drop, lt-ltb, ne_eqb, eqb-true, leb-true}
+use Rattle.std.proofs.Common.{◌≡◌, ℕ, suc, ◌+◌, ◌-◌, ◌%◌, ◌<◌, ◌≤◌, true, ◌&&◌, ◌||◌, leb, List, [], ◌∷◌, ◌++◌, length, get_or, drop, sym, refl, ap, ◌∙◌, subst, append_assoc, append-nil, add_assoc, arith, length-drop, get_or-drop, drop-drop, lt-ltb, leb-true}
 use mathlib.Core.List.{flatten}
 use borrow.Author.Tests.{lt-leb}
-use Rattle.codec.specs.Octets.{part, of_le}
+use Rattle.codec.specs.Octets.{part}
 use Rattle.codec.specs.Inner.Puts.{Put}
 use Rattle.codec.proofs.Laws.{part_length, head_at}
 use Rattle.codec.proofs.Outcomes.{and_true_lem}
@@ -10,21 +10,6 @@ use Rattle.codec.proofs.Puts.{put_then, put_none}
 use Rattle.bench_log.specs.Comparison.{difference, difference_lines}
 use Rattle.bench_log.proofs.Differences.{lines_append}
 use Rattle.bench_log.specs.Inner.Coded.{Item, decoded, whole, is_width, plain, width, contents_by, item_differences, Within, line_limit, lines_limit, FieldReady, Ready}
-
--- ---- a number of one, two or four octets
-
-module _ (s : List ℕ) where
-  pub number_one : length s ≡ 1 → get_or s 0 0 + 256 * 0 ≡ of_le (length s) 0 s
-  number_one e = rw e (omega arith)
-
-  pub number_two : length s ≡ 2 → get_or s 0 0 + 256 * get_or s 1 0 ≡ of_le (length s) 0 s
-  number_two e = rw e
-
-  pub number_four : length s ≡ 4 → get_or s 0 0 + 256 * get_or s 1 0 + 65536 * (get_or s 2 0 + 256 * get_or s 3 0) ≡ of_le (length s) 0 s
-  number_four e = rw e (omega arith)
-
-pub must_be_four : (n : ℕ) → is_width n ≡ true → (n ≡ 1 → ⊥) → (n ≡ 2 → ⊥) → n ≡ 4
-must_be_four n w a b = eqb-true n 4 (rw (ne_eqb n 1 a, ne_eqb n 2 b) at w)
 
 -- ---- so many fields of the layout are left from a place on, and two blocks from places on
 

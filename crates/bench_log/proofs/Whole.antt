@@ -11,7 +11,7 @@ use Rattle.bench_log.specs.Listing.{line, last_line, listing, next_line, next_to
 use Rattle.bench_log.specs.declared.totals.Totals.{Totals}
 use Rattle.bench_log.proofs.Records.{records_length, left}
 use Rattle.bench_log.proofs.Items.{counters_append, texts_append, all_numbered, told_text}
-use Rattle.bench_log.proofs.Counting.{one_more, counting}
+use Rattle.bench_log.proofs.Counting.{one_more_record, counting}
 
 -- ---- what one call lays out
 
@@ -41,4 +41,4 @@ after (end {t} {tail} h o z) =
 pub by_pieces : {log text : List ℕ} → Run no_records log text → length log < record_size * 2 ^ 64 → text ≡ listing log
 by_pieces {log} run h =
     let n = records_length (length log / record_size) log in
-    after run ∙ rw (all_numbered next_line next_totals (λ t. t.records) one_more (λ k r. line k (entry_of r)) (λ t r. refl) no_records (whole_records log) (omega arith), counting (whole_records log) (omega arith))
+    after run ∙ rw (all_numbered next_line next_totals (λ t. t.records) one_more_record (λ k r. line k (entry_of r)) (λ t r. refl) no_records (whole_records log) (omega arith), counting (whole_records log) (omega arith))

@@ -22,6 +22,7 @@ fn joined(low: u8, high: u8) -> usize
     low as usize + 256 * high as usize
 }
 
+#[tactic(auto, using(crate::proofs::Entries::wrong_direction))]
 fn keeps_layout(octets: &[u8], limit: usize) -> bool
     ensures { result ≡ keeps_layout limit octets.now }
 {

@@ -1,4 +1,6 @@
 // Bench logs: their records taken apart, the listing with its totals, and the comparison of two logs.
+#![tactic(auto)]
+
 mod block;
 mod comparison;
 mod difference;

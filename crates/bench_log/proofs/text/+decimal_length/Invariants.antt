@@ -1,0 +1,4 @@
+use Rattle.bench_log.proofs.text.+decimal_length.Given as goal
+
+abbrev pub decreases-decimal_length : goal.decreases-decimal_length
+decreases-decimal_length l = l.n
