@@ -1,4 +1,6 @@
 // Runs what the rules give to check, messages and sessions, and what is easy to get wrong, and prints a line for each.
+#![tactic(auto)]
+
 mod messages;
 mod sessions;
 mod show;

@@ -1,12 +1,12 @@
 // What the examples are printed with.
-use libc::STDOUT_FILENO;
+const STANDARD_OUTPUT: i32 = 1;
 
 pub(crate) fn text(octets: &[u8]) {
-    io::write_all(STDOUT_FILENO, octets);
+    io::write_all(STANDARD_OUTPUT, octets);
 }
 
 pub(crate) fn number(n: u64) {
-    io::print_decimal(STDOUT_FILENO, n);
+    io::print_decimal(STANDARD_OUTPUT, n);
 }
 
 // The technologies of a set, by name.

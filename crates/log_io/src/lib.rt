@@ -1,17 +1,28 @@
 // What the programs over bench logs share: opening a log, reading it piece by piece, writing what was laid out. What fails is said
 // on standard error, after words that name the program and the file.
+#![tactic(auto)]
+
 ghost use Rattle.std.specs.Prelude.{◌≡◌, true, min};
 ghost use Rattle.log_io.specs.Logs.{Opens, Reads};
 
-use libc::{ENOENT, STDOUT_FILENO};
+use std::fmt::InlineText;
+use std::fs::{File, Files};
+use std::io::{Error, ErrorKind, Read};
+use std::os::fd::AsRawFd;
 
 // In place of a descriptor: there is no such file. It is read as an empty one.
 pub const MISSING: i32 = -1;
 
-// A descriptor or `MISSING`, and whether the file is there and cannot be opened.
-#[derive(Clone, Copy)]
-pub struct Opened {
+const STANDARD_ERROR: i32 = 2;
+
+// Room for the words of an error, which are cut short where they are longer.
+const WORDS_SIZE: usize = 128;
+
+// A descriptor or `MISSING`, the open file that it is the number of, and whether the file is there and cannot be opened.
+#[derive(Drop)]
+pub struct Opened<F> {
     pub file: i32,
+    pub log: Option<F>,
     pub failed: bool,
 }
 
@@ -22,42 +33,76 @@ pub struct Got {
     pub failed: bool,
 }
 
-// Opens a log to be read.
-pub fn open_log(path: &[u8], failure: &[u8]) -> Opened
+// Says what failed and why, in the system's words, which an error is printed with the number after.
+fn fail(failure: &[u8], error: Error) {
+    let said = InlineText::<WORDS_SIZE>::of(error);
+    let text = said.as_str();
+    let words = match text.rsplit_once(" (os error ") {
+        Some((words, _)) => words,
+        None => text,
+    };
+    io::write_all(STANDARD_ERROR, failure);
+    io::write_all(STANDARD_ERROR, b": ");
+    io::write_all(STANDARD_ERROR, words.as_bytes());
+    io::write_all(STANDARD_ERROR, b"\n");
+}
+
+// Opens the file of this name, which has to be text.
+fn open_path<R: Files>(rt: &R, path: &[u8]) -> std::io::Result<R::File> {
+    match std::str::from_utf8(path) {
+        Ok(text) => File::open(rt, text),
+        Err(_) => Err(Error::from(ErrorKind::InvalidFilename)),
+    }
+}
+
+// Opens a log to be read. A path that is not text counts as one that cannot be opened.
+pub fn open_log<R: Files>(rt: &R, path: &[u8], failure: &[u8]) -> Opened<R::File>
+where
+    R::File: AsRawFd,
     ensures { Opens result.file result.failed }
 {
-    let file = os::open_read(path);
-    if 0 <= file {
-        return Opened {
-            file,
-            failed: false,
-        };
+    match open_path(rt, path) {
+        Ok(log) => {
+            let file = log.as_raw_fd();
+            if 0 <= file {
+                return Opened {
+                    file,
+                    log: Some(log),
+                    failed: false,
+                };
+            }
+            fail(failure, Error::other("no descriptor"));
+        }
+        Err(error) => {
+            if error.kind() == ErrorKind::NotFound {
+                return Opened {
+                    file: MISSING,
+                    log: None,
+                    failed: false,
+                };
+            }
+            fail(failure, error);
+        }
     }
-    if os::errno() == ENOENT {
-        return Opened {
-            file: MISSING,
-            failed: false,
-        };
-    }
-    os::fail(failure);
     Opened {
         file: MISSING,
+        log: None,
         failed: true,
     }
 }
 
-fn read_failed(length: usize, failure: &[u8]) -> Got
+fn read_failed(length: usize, error: Error, failure: &[u8]) -> Got
     ensures { (result.length ≡ length) × (result.failed ≡ true) }
 {
-    os::fail(failure);
+    fail(failure, error);
     Got {
         length,
         failed: true,
     }
 }
 
-// Reads until the piece is full or the log ends.
-pub fn read_piece(file: i32, piece: &mut [u8], failure: &[u8]) -> Got
+// Reads until the piece is full or the log ends. Where there is no log, nothing is read.
+pub fn read_piece<F: Read>(file: i32, log: &mut Option<F>, piece: &mut [u8], failure: &[u8]) -> Got
     ensures { Reads file piece.old piece.new result.length result.failed }
 {
     let mut at = 0;
@@ -67,19 +112,23 @@ pub fn read_piece(file: i32, piece: &mut [u8], failure: &[u8]) -> Got
             failed: false,
         };
     }
+    let Some(log) = log else {
+        return Got {
+            length: at,
+            failed: false,
+        };
+    };
     while at < piece.len() {
-        let got = libc::read(file, &mut piece[at..]);
-        if got < 0 {
-            return read_failed(at, failure);
+        match log.read(&mut piece[at..]) {
+            Ok(0) => {
+                return Got {
+                    length: at,
+                    failed: false,
+                };
+            }
+            Ok(n) => at += n,
+            Err(error) => return read_failed(at, error, failure),
         }
-        let n = io::count(got, &piece[at..]);
-        if n == 0 {
-            return Got {
-                length: at,
-                failed: false,
-            };
-        }
-        at += n;
     }
     Got {
         length: at,
@@ -94,16 +143,18 @@ fn least(a: usize, b: usize) -> usize
 }
 
 // Writes the first octets of a text to standard output, and tells whether all were written. To write none cannot fail.
-pub fn write_text(text: &[u8], n: usize, failure: &[u8]) -> bool
+pub fn write_text(rt: &impl Print, text: &[u8], n: usize, failure: &[u8]) -> bool
     ensures { n ≡ 0 → result ≡ true }
 {
     let end = least(n, text.len());
     if end == 0 {
         return true;
     }
-    let written = io::write_all(STDOUT_FILENO, &text[..end]);
-    if !written {
-        os::fail(failure);
+    match rt.write_all(&text[..end]) {
+        Ok(()) => true,
+        Err(error) => {
+            fail(failure, error);
+            false
+        }
     }
-    written
 }
