@@ -33,7 +33,7 @@ returns-then-has-6 c = let s = c.args.s in
     let x = settings_at h.result m in
     let answers : Gives s (session_call s (record { said = message m; lent = b })) b c.if-heard-eq0.answer (follow x c.if-heard-eq0.answer c.if-heard-eq0.session) c.if-heard-eq0.out =
     elim c.if-heard-eq0.branch [
-      then-heard-eq0+in-0 w ↦ rw (w.out-is, w.session-is, w.answer-is, w.answered-answer.ensures) (with_session (follow_none x w.write_capability_response-w.result _) (a_message s m b h.ensures w.if-heard-eq0.true {k = request} (ap kind_of w.in-0.is) (given s h.result.set w.common-blocks.ensures w.mark_given.ensures (was_heard s m b h.ensures w.if-heard-eq0.true).0 w.write_capability_response-w.ensures)))
+      | then-heard-eq0+in-0 w ↦ rw (w.out-is, w.session-is, w.answer-is, w.answered-answer.ensures) (with_session (follow_none x w.write_capability_response-w.result _) (a_message s m b h.ensures w.if-heard-eq0.true {k = request} (ap kind_of w.in-0.is) (given s h.result.set w.common-blocks.ensures w.mark_given.ensures (was_heard s m b h.ensures w.if-heard-eq0.true).0 w.write_capability_response-w.ensures)))
       | then-heard-eq0+in-2 w ↦ rw (w.out-is, w.session-is, w.answer-is) (a_message s m b h.ensures w.if-heard-eq0.true {k = configuration} (ap kind_of w.in-2.is) (record { answer = w.configure-answer.ensures.answer; session = rw w.configure-answer.ensures.answer (follow_configure s h.result.set b x); buffer = w.configure-answer.ensures.buffer }))
       | then-heard-eq0+in-6 w ↦ rw (w.out-is, w.session-is, w.answer-is) (a_message s m b h.ensures w.if-heard-eq0.true {k = stop} (ap kind_of w.in-6.is) (record { answer = w.halt-answer.ensures.answer; session = rw w.halt-answer.ensures.answer (follow_halt s h.result.set b x); buffer = w.halt-answer.ensures.buffer }))
       | then-heard-eq0+in_default w ↦ rw (w.out-is, w.session-is, w.answer-is, w.refusal-answer-in_default.ensures) (another s m b h.ensures w.if-heard-eq0.true (λ e. omega arith) (λ e. omega arith) (λ e. omega arith))
@@ -41,27 +41,27 @@ returns-then-has-6 c = let s = c.args.s in
     ] in
     let set_uwb : c.if-has.session ≡ on_session.put (alone uwb (names c.if-heard-eq0.answer.set uwb)) x c.if-heard-eq0.session =
     elim c.if-has.branch [
-      then-has w ↦ rw (w.session-is, w.ranging_uwb-session.ensures, w.uwb_settings.ensures, sym c.has.ensures ∙ w.if-has.true)
+      | then-has w ↦ rw (w.session-is, w.ranging_uwb-session.ensures, w.uwb_settings.ensures, sym c.has.ensures ∙ w.if-has.true)
       | else-has w ↦ rw (w.session-is, sym c.has.ensures ∙ w.if-has.false)
     ] in
     let set_nan : c.if-has-2.session ≡ on_session.put (alone nan (names c.if-heard-eq0.answer.set nan)) x c.if-has.session =
     elim c.if-has-2.branch [
-      then-has-2 w ↦ rw (w.session-is, w.ranging_nan-session.ensures, w.nan_settings.ensures, sym c.has-2.ensures ∙ w.if-has-2.true)
+      | then-has-2 w ↦ rw (w.session-is, w.ranging_nan-session.ensures, w.nan_settings.ensures, sym c.has-2.ensures ∙ w.if-has-2.true)
       | else-has-2 w ↦ rw (w.session-is, sym c.has-2.ensures ∙ w.if-has-2.false)
     ] in
     let set_rssi : c.if-has-3.session ≡ on_session.put (alone rssi (names c.if-heard-eq0.answer.set rssi)) x c.if-has-2.session =
     elim c.if-has-3.branch [
-      then-has-3 w ↦ rw (w.session-is, w.ranging_rssi-session.ensures, w.rssi_block.ensures, sym c.has-3.ensures ∙ w.if-has-3.true)
+      | then-has-3 w ↦ rw (w.session-is, w.ranging_rssi-session.ensures, w.rssi_block.ensures, sym c.has-3.ensures ∙ w.if-has-3.true)
       | else-has-3 w ↦ rw (w.session-is, sym c.has-3.ensures ∙ w.if-has-3.false)
     ] in
     let stop_uwb : c.if-has-4.session ≡ on_session.stop (alone uwb (names c.if-heard-eq0.answer.stopped uwb)) c.if-has-3.session =
     elim c.if-has-4.branch [
-      then-has-4 w ↦ rw (w.session-is, w.idle_uwb-session.ensures, sym c.has-4.ensures ∙ w.if-has-4.true)
+      | then-has-4 w ↦ rw (w.session-is, w.idle_uwb-session.ensures, sym c.has-4.ensures ∙ w.if-has-4.true)
       | else-has-4 w ↦ rw (w.session-is, sym c.has-4.ensures ∙ w.if-has-4.false)
     ] in
     let stop_nan : c.if-has-5.session ≡ on_session.stop (alone nan (names c.if-heard-eq0.answer.stopped nan)) c.if-has-4.session =
     elim c.if-has-5.branch [
-      then-has-5 w ↦ rw (w.session-is, w.idle_nan-session.ensures, sym c.has-5.ensures ∙ w.if-has-5.true)
+      | then-has-5 w ↦ rw (w.session-is, w.idle_nan-session.ensures, sym c.has-5.ensures ∙ w.if-has-5.true)
       | else-has-5 w ↦ rw (w.session-is, sym c.has-5.ensures ∙ w.if-has-5.false)
     ] in
     rw c.idle_rssi-session.ensures (followed s x m b c.if-heard-eq0.answer c.if-heard-eq0.out c.if-heard-eq0.session answers set_uwb set_nan set_rssi stop_uwb stop_nan (sym c.has-6.ensures ∙ c.if-has-6.true))
@@ -74,7 +74,7 @@ returns-else-has-6 c = let s = c.args.s in
     let x = settings_at h.result m in
     let answers : Gives s (session_call s (record { said = message m; lent = b })) b c.if-heard-eq0.answer (follow x c.if-heard-eq0.answer c.if-heard-eq0.session) c.if-heard-eq0.out =
     elim c.if-heard-eq0.branch [
-      then-heard-eq0+in-0 w ↦ rw (w.out-is, w.session-is, w.answer-is, w.answered-answer.ensures) (with_session (follow_none x w.write_capability_response-w.result _) (a_message s m b h.ensures w.if-heard-eq0.true {k = request} (ap kind_of w.in-0.is) (given s h.result.set w.common-blocks.ensures w.mark_given.ensures (was_heard s m b h.ensures w.if-heard-eq0.true).0 w.write_capability_response-w.ensures)))
+      | then-heard-eq0+in-0 w ↦ rw (w.out-is, w.session-is, w.answer-is, w.answered-answer.ensures) (with_session (follow_none x w.write_capability_response-w.result _) (a_message s m b h.ensures w.if-heard-eq0.true {k = request} (ap kind_of w.in-0.is) (given s h.result.set w.common-blocks.ensures w.mark_given.ensures (was_heard s m b h.ensures w.if-heard-eq0.true).0 w.write_capability_response-w.ensures)))
       | then-heard-eq0+in-2 w ↦ rw (w.out-is, w.session-is, w.answer-is) (a_message s m b h.ensures w.if-heard-eq0.true {k = configuration} (ap kind_of w.in-2.is) (record { answer = w.configure-answer.ensures.answer; session = rw w.configure-answer.ensures.answer (follow_configure s h.result.set b x); buffer = w.configure-answer.ensures.buffer }))
       | then-heard-eq0+in-6 w ↦ rw (w.out-is, w.session-is, w.answer-is) (a_message s m b h.ensures w.if-heard-eq0.true {k = stop} (ap kind_of w.in-6.is) (record { answer = w.halt-answer.ensures.answer; session = rw w.halt-answer.ensures.answer (follow_halt s h.result.set b x); buffer = w.halt-answer.ensures.buffer }))
       | then-heard-eq0+in_default w ↦ rw (w.out-is, w.session-is, w.answer-is, w.refusal-answer-in_default.ensures) (another s m b h.ensures w.if-heard-eq0.true (λ e. omega arith) (λ e. omega arith) (λ e. omega arith))
@@ -82,27 +82,27 @@ returns-else-has-6 c = let s = c.args.s in
     ] in
     let set_uwb : c.if-has.session ≡ on_session.put (alone uwb (names c.if-heard-eq0.answer.set uwb)) x c.if-heard-eq0.session =
     elim c.if-has.branch [
-      then-has w ↦ rw (w.session-is, w.ranging_uwb-session.ensures, w.uwb_settings.ensures, sym c.has.ensures ∙ w.if-has.true)
+      | then-has w ↦ rw (w.session-is, w.ranging_uwb-session.ensures, w.uwb_settings.ensures, sym c.has.ensures ∙ w.if-has.true)
       | else-has w ↦ rw (w.session-is, sym c.has.ensures ∙ w.if-has.false)
     ] in
     let set_nan : c.if-has-2.session ≡ on_session.put (alone nan (names c.if-heard-eq0.answer.set nan)) x c.if-has.session =
     elim c.if-has-2.branch [
-      then-has-2 w ↦ rw (w.session-is, w.ranging_nan-session.ensures, w.nan_settings.ensures, sym c.has-2.ensures ∙ w.if-has-2.true)
+      | then-has-2 w ↦ rw (w.session-is, w.ranging_nan-session.ensures, w.nan_settings.ensures, sym c.has-2.ensures ∙ w.if-has-2.true)
       | else-has-2 w ↦ rw (w.session-is, sym c.has-2.ensures ∙ w.if-has-2.false)
     ] in
     let set_rssi : c.if-has-3.session ≡ on_session.put (alone rssi (names c.if-heard-eq0.answer.set rssi)) x c.if-has-2.session =
     elim c.if-has-3.branch [
-      then-has-3 w ↦ rw (w.session-is, w.ranging_rssi-session.ensures, w.rssi_block.ensures, sym c.has-3.ensures ∙ w.if-has-3.true)
+      | then-has-3 w ↦ rw (w.session-is, w.ranging_rssi-session.ensures, w.rssi_block.ensures, sym c.has-3.ensures ∙ w.if-has-3.true)
       | else-has-3 w ↦ rw (w.session-is, sym c.has-3.ensures ∙ w.if-has-3.false)
     ] in
     let stop_uwb : c.if-has-4.session ≡ on_session.stop (alone uwb (names c.if-heard-eq0.answer.stopped uwb)) c.if-has-3.session =
     elim c.if-has-4.branch [
-      then-has-4 w ↦ rw (w.session-is, w.idle_uwb-session.ensures, sym c.has-4.ensures ∙ w.if-has-4.true)
+      | then-has-4 w ↦ rw (w.session-is, w.idle_uwb-session.ensures, sym c.has-4.ensures ∙ w.if-has-4.true)
       | else-has-4 w ↦ rw (w.session-is, sym c.has-4.ensures ∙ w.if-has-4.false)
     ] in
     let stop_nan : c.if-has-5.session ≡ on_session.stop (alone nan (names c.if-heard-eq0.answer.stopped nan)) c.if-has-4.session =
     elim c.if-has-5.branch [
-      then-has-5 w ↦ rw (w.session-is, w.idle_nan-session.ensures, sym c.has-5.ensures ∙ w.if-has-5.true)
+      | then-has-5 w ↦ rw (w.session-is, w.idle_nan-session.ensures, sym c.has-5.ensures ∙ w.if-has-5.true)
       | else-has-5 w ↦ rw (w.session-is, sym c.has-5.ensures ∙ w.if-has-5.false)
     ] in
     followed s x m b c.if-heard-eq0.answer c.if-heard-eq0.out c.if-heard-eq0.session answers set_uwb set_nan set_rssi stop_uwb stop_nan (sym c.has-6.ensures ∙ c.if-has-6.false)
