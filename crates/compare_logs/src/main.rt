@@ -52,8 +52,18 @@ fn read_pieces<F: Read>(
 ) -> Pieces
     ensures { (result.left ≤ length l.new) × (result.right ≤ length r.new) }
 {
-    let x = log_io::read_piece(left, &mut logs.left, l, b"compare_logs: left.log cannot be read");
-    let y = log_io::read_piece(right, &mut logs.right, r, b"compare_logs: right.log cannot be read");
+    let x = log_io::read_piece(
+        left,
+        &mut logs.left,
+        l,
+        b"compare_logs: left.log cannot be read",
+    );
+    let y = log_io::read_piece(
+        right,
+        &mut logs.right,
+        r,
+        b"compare_logs: right.log cannot be read",
+    );
     Pieces {
         left: x.length,
         right: y.length,
@@ -62,7 +72,12 @@ fn read_pieces<F: Read>(
 }
 
 fn write_text(rt: &impl Print, text: &[u8], n: usize) -> bool {
-    log_io::write_text(rt, text, n, b"compare_logs: standard output cannot be written")
+    log_io::write_text(
+        rt,
+        text,
+        n,
+        b"compare_logs: standard output cannot be written",
+    )
 }
 
 // The log after a piece of it was read, which has ended if the piece is not full.
@@ -176,5 +191,7 @@ fn main(rt: HostRuntime) {
     let mut l = [0u8; PIECE_SIZE];
     let mut r = [0u8; PIECE_SIZE];
     let mut text = [0u8; TEXT_SIZE];
-    run(&rt, left.file, right.file, &mut logs, &mut l, &mut r, &mut text);
+    run(
+        &rt, left.file, right.file, &mut logs, &mut l, &mut r, &mut text,
+    );
 }
