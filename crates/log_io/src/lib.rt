@@ -15,6 +15,9 @@ pub const MISSING: i32 = -1;
 
 const STANDARD_ERROR: i32 = 2;
 
+// The system's number for a descriptor that is not open.
+const NOT_OPEN: i32 = 9;
+
 // Room for the words of an error, which are cut short where they are longer.
 const WORDS_SIZE: usize = 128;
 
@@ -101,7 +104,7 @@ fn read_failed(length: usize, error: Error, failure: &[u8]) -> Got
     }
 }
 
-// Reads until the piece is full or the log ends. Where there is no log, nothing is read.
+// Reads until the piece is full or the log ends. A number with no open file beside it cannot be read.
 pub fn read_piece<F: Read>(file: i32, log: &mut Option<F>, piece: &mut [u8], failure: &[u8]) -> Got
     ensures { Reads file piece.old piece.new result.length result.failed }
 {
@@ -113,10 +116,7 @@ pub fn read_piece<F: Read>(file: i32, log: &mut Option<F>, piece: &mut [u8], fai
         };
     }
     let Some(log) = log else {
-        return Got {
-            length: at,
-            failed: false,
-        };
+        return read_failed(at, Error::from_raw_os_error(NOT_OPEN), failure);
     };
     while at < piece.len() {
         match log.read(&mut piece[at..]) {

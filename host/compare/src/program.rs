@@ -38,7 +38,9 @@ impl Program {
         let path = env::var_os(variable).map_or_else(built, PathBuf::from);
         let missing = |_| {
             let path = path.display();
-            format!("{path} is missing: build it with rt check {name}, or set {variable}")
+            format!(
+                "{path} is missing: ./raydulcimer list and ./raydulcimer compare build the programs, or set {variable}"
+            )
         };
         let path = path.canonicalize().map_err(missing)?;
         let logs = env::temp_dir().join(format!("raydulcimer_{name}_{}", process::id()));
