@@ -2,10 +2,11 @@
 // missing counts as empty.
 #![tactic(auto)]
 
-ghost use Rattle.std.specs.Prelude.{◌≤◌, length};
+ghost use Rattle.std.specs.Prelude.{◌≤◌, IfOk, length};
 
 use bench_log::{Kinds, POSITION_LIMIT, RECORD_SIZE};
-use log_io::MISSING;
+use log_io::Said;
+use std::fs::Files;
 use std::io::Read;
 
 // A piece of a log has so many records.
@@ -16,182 +17,115 @@ const PIECE_SIZE: usize = RECORDS * RECORD_SIZE;
 // Room for the lines of as many positions, and more than the last line takes.
 const TEXT_SIZE: usize = RECORDS * POSITION_LIMIT;
 
-// Both logs, where they are there.
+// A log: what is said where it fails, the open file until it has ended, and how many octets its partial last record has.
 #[derive(Drop)]
-struct Logs<F> {
-    left: Option<F>,
-    right: Option<F>,
+struct Log<R> {
+    failure: &'static str,
+    file: Option<R>,
+    tail: u64,
 }
 
-// What was read of both: how many octets, and whether a read failed.
-#[derive(Clone, Copy)]
-struct Pieces {
-    left: usize,
-    right: usize,
-    failed: bool,
-}
+impl<R: Read + Drop> Log<R> {
+    // Reads the next piece, and gives how many octets it has. The log has ended if the piece is not full. Its partial last record is in the
+    // last piece that any octets were read of.
+    fn next_piece(&mut self, rt: &impl Eprint, piece: &mut [u8; PIECE_SIZE]) -> Result<usize, Said>
+        ensures { IfOk result (λ n. n ≤ length piece.new) }
+    {
+        let failure = self.failure;
+        let length = log_io::read_piece(&mut self.file, piece).map_err(|failed| log_io::say(
+            rt,
+            failure,
+            failed.error,
+        ))?;
+        if length > 0 {
+            self.tail = (length % RECORD_SIZE) as u64;
+        }
+        if length < PIECE_SIZE {
+            self.file = None;
+        }
+        Ok(length)
+    }
 
-// The counters so far, the logs, which are missing when they have ended, the octets of their partial last records, and whether all went
-// well.
-#[derive(Clone, Copy)]
-struct Turn {
-    kinds: Kinds,
-    left: i32,
-    right: i32,
-    left_tail: u64,
-    right_tail: u64,
-    sound: bool,
-}
-
-fn read_pieces<F: Read>(
-    left: i32,
-    right: i32,
-    logs: &mut Logs<F>,
-    l: &mut [u8],
-    r: &mut [u8],
-) -> Pieces
-    ensures { (result.left ≤ length l.new) × (result.right ≤ length r.new) }
-{
-    let x = log_io::read_piece(
-        left,
-        &mut logs.left,
-        l,
-        b"compare_logs: left.log cannot be read",
-    );
-    let y = log_io::read_piece(
-        right,
-        &mut logs.right,
-        r,
-        b"compare_logs: right.log cannot be read",
-    );
-    Pieces {
-        left: x.length,
-        right: y.length,
-        failed: x.failed | y.failed,
+    fn has_ended(&self) -> bool {
+        self.file.is_none()
     }
 }
 
-fn write_text(rt: &impl Print, text: &[u8], n: usize) -> bool {
-    log_io::write_text(
+fn open<R: Files + Eprint>(
+    rt: &R,
+    path: &[u8],
+    failure: &'static str,
+) -> Result<Log<R::File>, Said> {
+    let file = log_io::open_log(rt, path).map_err(|error| log_io::say(rt, failure, error))?;
+    Ok(Log {
+        failure,
+        file,
+        tail: 0,
+    })
+}
+
+fn write_text(rt: &(impl Print + Eprint), text: &[u8]) -> Result<(), Said> {
+    let failure = "compare_logs: standard output cannot be written";
+    log_io::write_text(rt, text).map_err(|error| log_io::say(rt, failure, error))
+}
+
+// Tells the logs piece by piece, and writes the last line. The pieces are as long as one another, unless a log has ended. Where a read of
+// one log failed, the other is read too, and nothing more is told.
+fn compare<R: Read + Drop>(
+    rt: &(impl Print + Eprint),
+    left: &mut Log<R>,
+    right: &mut Log<R>,
+    left_piece: &mut [u8; PIECE_SIZE],
+    right_piece: &mut [u8; PIECE_SIZE],
+    text: &mut [u8; TEXT_SIZE],
+) -> Result<(), Said> {
+    let mut kinds = Kinds {
+        positions: 0,
+        pairs: 0,
+        same_octets: 0,
+        same_reading: 0,
+        different: 0,
+        only_left: 0,
+        only_right: 0,
+    };
+    // a proved loop has to end: no log has so many pieces
+    for _ in 0..u64::MAX {
+        let left_read = left.next_piece(rt, left_piece);
+        let right_read = right.next_piece(rt, right_piece);
+        let compared = bench_log::compare(
+            &left_piece[..left_read?],
+            &right_piece[..right_read?],
+            kinds,
+            text,
+        );
+        kinds = compared.kinds;
+        write_text(rt, &text[..compared.length])?;
+        if left.has_ended() && right.has_ended() {
+            break;
+        }
+    }
+    let line = bench_log::sum_line(kinds, left.tail, right.tail, text);
+    write_text(rt, &text[..line.length])
+}
+
+// Opens both logs, also where one of them fails, and compares them.
+fn run<R: Files + Print + Eprint>(rt: &R) -> Result<(), Said> {
+    let left = open(rt, b"left.log", "compare_logs: left.log cannot be read");
+    let right = open(rt, b"right.log", "compare_logs: right.log cannot be read");
+    let mut left_piece = [0u8; PIECE_SIZE];
+    let mut right_piece = [0u8; PIECE_SIZE];
+    let mut text = [0u8; TEXT_SIZE];
+    compare(
         rt,
-        text,
-        n,
-        b"compare_logs: standard output cannot be written",
+        &mut left?,
+        &mut right?,
+        &mut left_piece,
+        &mut right_piece,
+        &mut text,
     )
 }
 
-// The log after a piece of it was read, which has ended if the piece is not full.
-fn after(log: i32, length: usize) -> i32 {
-    if length < PIECE_SIZE { MISSING } else { log }
-}
-
-// The octets of a partial last record: those of the last piece that any were read of.
-fn tail(before: u64, length: usize) -> u64 {
-    if length == 0 {
-        return before;
-    }
-    (length % RECORD_SIZE) as u64
-}
-
-// Tells two pieces. They are as long as one another, unless a log has ended.
-fn tell(rt: &impl Print, before: Turn, left: &[u8], right: &[u8], text: &mut [u8]) -> Turn {
-    let compared = bench_log::compare(left, right, before.kinds, text);
-    let kinds = compared.kinds;
-    Turn {
-        kinds,
-        left: after(before.left, left.len()),
-        right: after(before.right, right.len()),
-        left_tail: tail(before.left_tail, left.len()),
-        right_tail: tail(before.right_tail, right.len()),
-        sound: write_text(rt, text, compared.length),
-    }
-}
-
-// One piece of both logs. Where a read failed, nothing more is told.
-fn next_turn<F: Read>(
-    rt: &impl Print,
-    before: Turn,
-    logs: &mut Logs<F>,
-    l: &mut [u8],
-    r: &mut [u8],
-    text: &mut [u8],
-) -> Turn {
-    let read = read_pieces(before.left, before.right, logs, l, r);
-    if read.failed {
-        let mut failed = before;
-        failed.sound = false;
-        return failed;
-    }
-    let x = read.left;
-    let y = read.right;
-    tell(rt, before, &l[..x], &r[..y], text)
-}
-
-fn goes_on(state: Turn) -> bool {
-    state.sound & ((state.left != MISSING) | (state.right != MISSING))
-}
-
-// Writes the last line, if all went well.
-fn finish(rt: &impl Print, state: Turn, text: &mut [u8]) {
-    if !state.sound {
-        return;
-    }
-    let kinds = state.kinds;
-    let line = bench_log::sum_line(kinds, state.left_tail, state.right_tail, text);
-    write_text(rt, text, line.length);
-}
-
-// A proved loop has to end, so it counts its turns down, from a number that no log uses up.
-fn run<F: Read>(
-    rt: &impl Print,
-    left: i32,
-    right: i32,
-    logs: &mut Logs<F>,
-    l: &mut [u8; PIECE_SIZE],
-    r: &mut [u8; PIECE_SIZE],
-    text: &mut [u8; TEXT_SIZE],
-) {
-    let mut state = Turn {
-        kinds: Kinds {
-            positions: 0,
-            pairs: 0,
-            same_octets: 0,
-            same_reading: 0,
-            different: 0,
-            only_left: 0,
-            only_right: 0,
-        },
-        left,
-        right,
-        left_tail: 0,
-        right_tail: 0,
-        sound: true,
-    };
-    let mut turns = u64::MAX;
-    while turns > 0 {
-        state = next_turn(rt, state, logs, l, r, text);
-        if !goes_on(state) {
-            break;
-        }
-        turns -= 1;
-    }
-    finish(rt, state, text);
-}
-
 fn main(rt: HostRuntime) {
-    let left = log_io::open_log(&rt, b"left.log", b"compare_logs: left.log cannot be read");
-    let right = log_io::open_log(&rt, b"right.log", b"compare_logs: right.log cannot be read");
-    if left.failed | right.failed {
-        return;
-    }
-    let mut logs = Logs {
-        left: left.log,
-        right: right.log,
-    };
-    let mut l = [0u8; PIECE_SIZE];
-    let mut r = [0u8; PIECE_SIZE];
-    let mut text = [0u8; TEXT_SIZE];
-    run(
-        &rt, left.file, right.file, &mut logs, &mut l, &mut r, &mut text,
-    );
+    // what failed was said
+    let _ = run(&rt);
 }

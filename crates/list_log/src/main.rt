@@ -2,6 +2,7 @@
 #![tactic(auto)]
 
 use bench_log::{LINE_LIMIT, RECORD_SIZE, Totals};
+use log_io::Said;
 use std::io::Read;
 
 // A piece of the log has so many records, some 64 KiB.
@@ -12,78 +13,46 @@ const PIECE_SIZE: usize = RECORDS * RECORD_SIZE;
 // Room for the lines of a piece, and more than the last line takes.
 const TEXT_SIZE: usize = RECORDS * LINE_LIMIT;
 
-const STANDARD_INPUT: i32 = 0;
-
-// The totals so far, and whether the log goes on.
-#[derive(Clone, Copy)]
-struct Turn {
-    totals: Totals,
-    more: bool,
+fn write_text(rt: &(impl Print + Eprint), text: &[u8]) -> Result<(), Said> {
+    let failure = "list_log: standard output cannot be written";
+    log_io::write_text(rt, text).map_err(|error| log_io::say(rt, failure, error))
 }
 
-fn write_text(rt: &impl Print, text: &[u8], n: usize) -> bool {
-    log_io::write_text(rt, text, n, b"list_log: standard output cannot be written")
-}
-
-// Lists one piece of the log, and writes the last line after the last piece.
-fn list_piece<F: Read>(
-    rt: &impl Print,
-    log: &mut Option<F>,
-    before: Totals,
-    piece: &mut [u8],
-    text: &mut [u8],
-) -> Turn {
-    let got = log_io::read_piece(
-        STANDARD_INPUT,
-        log,
-        piece,
-        b"list_log: standard input cannot be read",
-    );
-    let end = got.length;
-    let listed = bench_log::list(&piece[..end], before, text);
-    let totals = listed.totals;
-    let written = write_text(rt, text, listed.length);
-    let sound = written & !got.failed;
-    if sound & (end < piece.len()) {
-        let line = bench_log::last_line(totals, (end % RECORD_SIZE) as u64, text);
-        write_text(rt, text, line.length);
-        return Turn {
-            totals,
-            more: false,
-        };
-    }
-    Turn {
-        totals,
-        more: sound,
-    }
-}
-
-// A proved loop has to end, so it counts its turns down, from a number that no log uses up.
-fn run<F: Read>(
-    rt: &impl Print,
-    log: &mut Option<F>,
+// Lists the log piece by piece, and writes the last line after the last piece. The records before a read that failed are listed too.
+fn list<R: Read>(
+    rt: &(impl Print + Eprint),
+    log: &mut Option<R>,
     piece: &mut [u8; PIECE_SIZE],
     text: &mut [u8; TEXT_SIZE],
-) {
+) -> Result<(), Said> {
+    let failure = "list_log: standard input cannot be read";
     let mut totals = Totals {
         records: 0,
         accepted: 0,
         refused: 0,
     };
-    let mut turns = u64::MAX;
-    while turns > 0 {
-        let turn = list_piece(rt, log, totals, piece, text);
-        if !turn.more {
-            break;
+    // a proved loop has to end: no log has so many pieces
+    for _ in 0..u64::MAX {
+        let (length, read) = match log_io::read_piece(log, piece) {
+            Ok(length) => (length, Ok(())),
+            Err(failed) => (failed.length, Err(log_io::say(rt, failure, failed.error))),
+        };
+        let listed = bench_log::list(&piece[..length], totals, text);
+        totals = listed.totals;
+        write_text(rt, &text[..listed.length])?;
+        read?;
+        if length < PIECE_SIZE {
+            let line = bench_log::last_line(totals, (length % RECORD_SIZE) as u64, text);
+            return write_text(rt, &text[..line.length]);
         }
-        totals = turn.totals;
-        turns -= 1;
     }
+    Ok(())
 }
 
 fn main(rt: HostRuntime) {
     let mut log = Some(rt.stdin());
     let mut piece = [0u8; PIECE_SIZE];
     let mut text = [0u8; TEXT_SIZE];
-    run(&rt, &mut log, &mut piece, &mut text);
+    // what failed was said
+    let _ = list(&rt, &mut log, &mut piece, &mut text);
 }
