@@ -5,7 +5,9 @@ mod messages;
 mod sessions;
 mod show;
 
-fn main() {
-    messages::run();
-    sessions::run();
+use std::io;
+
+fn main(rt: HostRuntime) -> io::Result<()> {
+    messages::run(&rt)?;
+    sessions::run(&rt)
 }

@@ -1,55 +1,40 @@
-// What the examples are printed with.
-const STANDARD_OUTPUT: i32 = 1;
+// How sets and octets are printed.
+use std::fmt;
 
-pub(crate) fn text(octets: &[u8]) {
-    io::write_all(STANDARD_OUTPUT, octets);
-}
+// The names of the technologies of a set, each after a space.
+#[derive(Clone, Copy)]
+pub(crate) struct Names(pub(crate) u16);
 
-pub(crate) fn number(n: u64) {
-    io::print_decimal(STANDARD_OUTPUT, n);
-}
-
-// The technologies of a set, by name.
-pub(crate) fn set(set: u16) {
-    if set == 0 {
-        text(b" none");
-    }
-    if set % 2 == 1 {
-        text(b" UWB");
-    }
-    if set / 2 % 2 == 1 {
-        text(b" CS");
-    }
-    if set / 4 % 2 == 1 {
-        text(b" NAN");
-    }
-    if set / 8 % 2 == 1 {
-        text(b" RSSI");
-    }
-}
-
-fn digit(n: u8) -> u8 {
-    match n {
-        0..=9 => b'0' + n,
-        10..=15 => b'A' + (n - 10),
-        16..=255 => b'?',
-    }
-}
-
-fn octet(x: u8) {
-    text(&[b' ', digit(x / 16), digit(x % 16)]);
-}
-
-// The first octets of a buffer.
-pub(crate) fn octets(out: &[u8], count: usize) {
-    if count == 0 {
-        text(b" none");
-    }
-    let mut i = 0;
-    while i < out.len() {
-        if i < count {
-            octet(out[i]);
+impl fmt::Display for Names {
+    fn fmt<W: fmt::Write>(&self, f: &mut fmt::Formatter<W>) -> fmt::Result {
+        let set = self.0;
+        if set == 0 {
+            return write!(f, " none");
         }
-        i += 1;
+        for (id, name) in [(0, "UWB"), (1, "CS"), (2, "NAN"), (3, "RSSI")] {
+            if codec::has(set, id) {
+                write!(f, " {name}")?;
+            }
+        }
+        Ok(())
+    }
+}
+
+// The first octets of a buffer in hexadecimal, each after a space.
+#[derive(Clone, Copy)]
+pub(crate) struct Octets<'a> {
+    pub(crate) buffer: &'a [u8],
+    pub(crate) length: usize,
+}
+
+impl<'a> fmt::Display for Octets<'a> {
+    fn fmt<W: fmt::Write>(&self, f: &mut fmt::Formatter<W>) -> fmt::Result {
+        if self.length == 0 {
+            return write!(f, " none");
+        }
+        for octet in self.buffer.iter().take(self.length) {
+            write!(f, " {octet:02X}")?;
+        }
+        Ok(())
     }
 }
