@@ -2,8 +2,11 @@
 // error what failed.
 #![tactic(auto)]
 
-ghost use Rattle.std.specs.Prelude.{◌≡◌, ◌≢◌, ◌≤◌, [], None, Some, Ok, Err, IfOk, IfErr, IsOk, length};
+ghost use Rattle.std.specs.Prelude.{◌≡◌, ◌≢◌, ◌<◌, [], IfOk, IfErr, IsOk, IsErr, IsErrAnd, length};
+ghost use Rattle.std.specs.Io.KnownBytes.{IsAtEnd};
 ghost use Rattle.std.specs.IoError.{error_kind};
+ghost use Rattle.std.specs.Str.{IsUtf8};
+ghost use Rattle.log_io.specs.Logs.{octets_left, Reads};
 
 use std::fmt::InlineText;
 use std::fs::{File, Files};
@@ -20,18 +23,14 @@ pub struct ReadError {
     pub error: Error,
 }
 
-impl From<ReadError> for Error {
-    fn from(failed: ReadError) -> Error {
-        failed.error
-    }
-}
-
 // What failed was said on standard error.
 #[derive(Clone, Copy, Debug, PartialEq, Eq)]
 pub struct Said;
 
 // Opens the file of this name, which has to be text.
-fn open_path<R: Files>(rt: &R, path: &[u8]) -> io::Result<R::File> {
+fn open_path<R: Files>(rt: &R, path: &[u8]) -> io::Result<R::File>
+    ensures { ¬ (IsUtf8 path.now) → IsErrAnd result (λ error. error_kind error ≡ ErrorKind.InvalidFilename) }
+{
     match std::str::from_utf8(path) {
         Ok(text) => File::open(rt, text),
         Err(_) => Err(Error::from(ErrorKind::InvalidFilename)),
@@ -39,7 +38,7 @@ fn open_path<R: Files>(rt: &R, path: &[u8]) -> io::Result<R::File> {
 }
 
 // What opening a log gave: none where there is no such file, which is no failure. Every other failure is one.
-pub fn found<F>(opened: io::Result<F>) -> io::Result<Option<F>>
+fn found<F>(opened: io::Result<F>) -> io::Result<Option<F>>
     ensures there { IfOk opened (λ log. result ≡ Ok (Some log)) }
     ensures missing { IfErr opened (λ error. error_kind error ≡ ErrorKind.NotFound → result ≡ Ok None) }
     ensures fails { IfErr opened (λ error. error_kind error ≢ ErrorKind.NotFound → result ≡ Err error) }
@@ -52,14 +51,18 @@ pub fn found<F>(opened: io::Result<F>) -> io::Result<Option<F>>
 }
 
 // Opens a log to be read: none where there is no such file. A path that is not text counts as one that cannot be opened.
-pub fn open_log<R: Files>(rt: &R, path: &[u8]) -> io::Result<Option<R::File>> {
+pub fn open_log<R: Files>(rt: &R, path: &[u8]) -> io::Result<Option<R::File>>
+    ensures { ¬ (IsUtf8 path.now) → IsErr result }
+{
     found(open_path(rt, path))
 }
 
-// Reads until the piece is full or the log ends, and gives how many octets were read. A log that is missing is read as an empty one.
+// Reads until the piece is full or the log ends, and gives how many octets were read. A log that is missing is read as an empty one, and
+// the piece is left as it was.
 pub fn read_piece<R: Read>(log: &mut Option<R>, piece: &mut [u8]) -> Result<usize, ReadError>
-    ensures within { IfOk result (λ n. n ≤ length piece.new) }
-    ensures within_failed { IfErr result (λ failed. failed.length ≤ length piece.new) }
+    ensures ok { IfOk result (λ n. Reads R.remaining log.old log.new n piece.new) }
+    ensures ended { IfOk result (λ n. n < length piece.new → IsAtEnd (octets_left R.remaining log.new)) }
+    ensures err { IfErr result (λ failed. Reads R.remaining log.old log.new failed.length piece.new) }
     ensures missing { log.old ≡ None → result ≡ Ok 0 }
     ensures missing_left { log.old ≡ None → piece.new ≡ piece.old }
 {
