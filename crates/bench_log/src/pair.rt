@@ -7,7 +7,7 @@ ghost use Rattle.bench_log.specs.Comparison.{shown, difference_lines, pair_lines
 ghost use Rattle.bench_log.specs.Inner.Pairs.{Sees, head_differences};
 
 use crate::difference::{put_numbers, wide};
-use crate::kinds::{DIFFERENT, SAME_OCTETS, SAME_READING};
+use crate::kinds::Kind;
 use crate::layout::take_apart;
 use crate::messages::put_messages;
 use crate::same::same;
@@ -27,7 +27,7 @@ pub(crate) struct Seen {
 #[derive(Clone, Copy)]
 pub(crate) struct Said {
     pub end: usize,
-    pub kind: u8,
+    pub kind: Kind,
 }
 
 fn look_at(octets: &[u8]) -> Seen
@@ -133,7 +133,7 @@ pub(crate) fn put_pair(out: &mut [u8], at: usize, number: u64, left: &[u8], righ
         let end = put_words(out, at, number, b" same octets\n");
         return Said {
             end,
-            kind: SAME_OCTETS,
+            kind: Kind::SameOctets,
         };
     }
     let next = put_differences(out, at, number, left, right);
@@ -141,11 +141,11 @@ pub(crate) fn put_pair(out: &mut [u8], at: usize, number: u64, left: &[u8], righ
         let end = put_words(out, at, number, b" same reading\n");
         return Said {
             end,
-            kind: SAME_READING,
+            kind: Kind::SameReading,
         };
     }
     Said {
         end: next,
-        kind: DIFFERENT,
+        kind: Kind::Different,
     }
 }

@@ -10,7 +10,7 @@ pub loop-i-preserved : goal.loop-i-preserved
 loop-i-preserved c = (
   omega arith,
   omega (arith, c.put_only-length.ensures.1),
-  one_only c.args.left c.args.piece.now c.loop-i.i _ c.loop-i.invariant.2 c.entry_of-e.ensures c.only_kind-kind.ensures c.put_only-length.ensures.0 c.counted-kinds.ensures,
+  one_only c.args.side c.args.piece.now c.loop-i.i _ c.loop-i.invariant.2 c.entry_of-e.ensures c.kind-kind.ensures c.put_only-length.ensures.0 c.counted-kinds.ensures,
 )
 
 pub returns : goal.returns

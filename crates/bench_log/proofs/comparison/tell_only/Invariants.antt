@@ -6,7 +6,7 @@ use Rattle.std.proofs.Common.{◌+◌, ◌-◌, ◌*◌, ◌≤◌, map}
 use Rattle.bench_log.proofs.comparison.tell_only.Given as goal
 
 abbrev pub invariant-loop-i : goal.invariant-loop-i
-invariant-loop-i l = (l.i ≤ l.count) × (l.length ≤ l.initial.length + l.i * position_limit) × SoFar next_lines next_kinds (map (only_on l.left) (records_in l.i l.piece)) l.initial.kinds l.fn.out l.initial.length l.kinds l.out l.length
+invariant-loop-i l = (l.i ≤ l.count) × (l.length ≤ l.initial.length + l.i * position_limit) × SoFar next_lines next_kinds (map (only_on l.side) (records_in l.i l.piece)) l.initial.kinds l.fn.out l.initial.length l.kinds l.out l.length
 
 abbrev pub decreases-loop-i : goal.decreases-loop-i
 decreases-loop-i l = l.count - l.i
