@@ -19,8 +19,7 @@ use Rattle.codec.proofs.Puts.{put_then}
 use Rattle.codec.specs.declared.records.Record.{Record}
 use Rattle.bench_log.specs.Fields.{message_id_name, amount}
 use Rattle.bench_log.specs.Comparison.{Difference, difference, difference_lines}
-use Rattle.bench_log.specs.Inner.Coded.{lines_limit}
-use Rattle.bench_log.specs.Inner.Differences.{section_differences, presence_difference, block_at, section_limit, section_in, SectionsReady, read_differences, messages_limit, MessagesReady}
+use Rattle.bench_log.specs.Inner.Differences.{section_differences, presence_difference, block_at, lines_limit, section_limit, section_in, SectionsReady, read_differences, messages_limit, MessagesReady}
 use Rattle.bench_log.proofs.Differences.{lines_append}
 
 column_in_lem : (m places : List ℕ) (k : Column) → column_in (record_at m places) k ≡ column_found m places k

@@ -10,6 +10,7 @@ ghost use Rattle.bench_log.specs.Fields.{amount};
 ghost use Rattle.bench_log.specs.Comparison.{difference, difference_lines};
 ghost use Rattle.bench_log.specs.Inner.Differences.{presence_difference, column_by, section_limit, section_in, SectionsReady, read_differences, messages_limit, MessagesReady};
 
+use crate::block::Column;
 use crate::difference::{put_numbers, wide};
 use crate::sections::put_section;
 use codec::message::{CAPABILITY_RESPONSE, CONFIGURATION};
@@ -55,7 +56,7 @@ fn put_sections(
     out: &mut [u8],
     at: usize,
     number: u64,
-    configuration: bool,
+    column: Column,
     s: u16,
     u: u16,
     left: &[u8],
@@ -63,14 +64,14 @@ fn put_sections(
     right: &[u8],
     b: &[u16; 5],
 ) -> usize
-    requires { SectionsReady (column_by configuration) s u left.now a.now right.now b.now at out.old }
-    ensures { Put out.old at (difference_lines number (flatten (map (section_in (column_by configuration) s u left.now a.now right.now b.now) technologies))) out.new result
-        × (result ≤ at + (section_limit (column_by configuration) uwb + (section_limit (column_by configuration) cs + (section_limit (column_by configuration) nan + section_limit (column_by configuration) rssi)))) }
+    requires { SectionsReady (column_by column) s u left.now a.now right.now b.now at out.old }
+    ensures { Put out.old at (difference_lines number (flatten (map (section_in (column_by column) s u left.now a.now right.now b.now) technologies))) out.new result
+        × (result ≤ at + (section_limit (column_by column) uwb + (section_limit (column_by column) cs + (section_limit (column_by column) nan + section_limit (column_by column) rssi)))) }
 {
-    let p = put_section(out, at, number, configuration, UWB, s, u, left, a, right, b);
-    let q = put_section(out, p, number, configuration, CS, s, u, left, a, right, b);
-    let r = put_section(out, q, number, configuration, NAN, s, u, left, a, right, b);
-    put_section(out, r, number, configuration, RSSI, s, u, left, a, right, b)
+    let p = put_section(out, at, number, column, UWB, s, u, left, a, right, b);
+    let q = put_section(out, p, number, column, CS, s, u, left, a, right, b);
+    let r = put_section(out, q, number, column, NAN, s, u, left, a, right, b);
+    put_section(out, r, number, column, RSSI, s, u, left, a, right, b)
 }
 
 fn joined(low: u8, high: u8) -> u16
@@ -110,10 +111,32 @@ pub(crate) fn put_messages(
     let u = set_in(right);
     let next = put_presences(out, at, number, s, u);
     if id == CAPABILITY_RESPONSE {
-        return put_sections(out, next, number, false, s, u, left, a, right, b);
+        return put_sections(
+            out,
+            next,
+            number,
+            Column::Capabilities,
+            s,
+            u,
+            left,
+            a,
+            right,
+            b,
+        );
     }
     if id == CONFIGURATION {
-        return put_sections(out, next, number, true, s, u, left, a, right, b);
+        return put_sections(
+            out,
+            next,
+            number,
+            Column::Configurations,
+            s,
+            u,
+            left,
+            a,
+            right,
+            b,
+        );
     }
     next
 }

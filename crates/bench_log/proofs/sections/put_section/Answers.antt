@@ -1,4 +1,4 @@
-use Rattle.bench_log.proofs.Coded.{section_none, section_left, section_right, section_ready, section_put}
+use Rattle.bench_log.proofs.BlockPairs.{section_none, section_left, section_right, section_ready, section_put}
 use Rattle.std.proofs.Common.{arith}
 use Rattle.bench_log.proofs.sections.put_section.Goals as goal
 
