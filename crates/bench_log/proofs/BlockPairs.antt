@@ -1,7 +1,7 @@
 -- What differs in two blocks, field by field, and in the sections of two messages.
-use Rattle.std.proofs.Common.{◌≡◌, ℕ, zero, suc, ◌+◌, ◌-◌, ◌*◌, ◌<◌, ◌≤◌, Bool, true, false, ◌&&◌, eqb, List, [], ◌∷◌, ◌++◌, length, get_or, take, drop, replicate, sym, refl, ap, ◌∙◌, subst, append_assoc, append-nil, arith, length-drop, take_at, ne_eqb, true≢false, eqb-true}
+use Rattle.std.proofs.Common.{◌≡◌, ℕ, zero, suc, ◌+◌, ◌-◌, ◌<◌, ◌≤◌, Bool, true, false, ◌&&◌, eqb, List, [], ◌∷◌, ◌++◌, length, get_or, take, drop, replicate, sym, refl, ◌∙◌, subst, append_assoc, append-nil, arith, length-drop, take_at, ne_eqb, true≢false, eqb-true}
 use mathlib.Core.List.{flatten}
-use Rattle.codec.specs.Octets.{part, of_le}
+use Rattle.codec.specs.Octets.{part}
 use Rattle.codec.specs.Technology.{Technology, uwb, cs, nan, rssi, technology_id, bit, in_both}
 use Rattle.codec.specs.Layout.{Layout, number, octets, counted, value}
 use Rattle.codec.specs.Blocks.{Column, cell}
@@ -12,7 +12,7 @@ use Rattle.codec.proofs.Laws.{part_length, suffix}
 use Rattle.codec.proofs.Layouts.{roomy_from}
 use Rattle.codec.proofs.Puts.{put_then, put_none}
 use Rattle.bench_log.specs.Text.{ascii}
-use Rattle.bench_log.specs.Fields.{amount, string, prefix}
+use Rattle.bench_log.specs.Fields.{amount, prefix}
 use Rattle.bench_log.specs.Comparison.{same, difference, difference_lines}
 use Rattle.bench_log.specs.Inner.BlockFields.{is_width, is_field, are_fields, field_differences, field_end, field_limit, HasWidth, FieldReady}
 use Rattle.bench_log.specs.Inner.Differences.{block_differences, technology_by, block_at, lines_limit, section_limit, BlockReady, section_in, SectionReady, SectionsReady}
@@ -146,6 +146,13 @@ module _ {p : List ℕ} {L : Layout} {l r d : List ℕ} {n at : ℕ} where
 
 -- ---- the section of a technology
 
+-- its words are short
+pub prefix_short : (t : Technology) → length (prefix t) ≤ 5
+prefix_short uwb = omega arith
+prefix_short cs = omega arith
+prefix_short nan = omega arith
+prefix_short rssi = omega arith
+
 -- the technology of an ID
 pub is_uwb : {id : ℕ} → id ≡ 0 → technology_by id ≡ uwb
 unfolding technology_by
@@ -164,7 +171,7 @@ unfolding technology_by
 is_rssi a b c = rw (ne_eqb _ _ a, ne_eqb _ _ b, ne_eqb _ _ c)
 
 -- at places of two messages, for the technology of an ID
-id_by : (id : ℕ) → id < 4 → technology_id (technology_by id) ≡ id
+pub id_by : (id : ℕ) → id < 4 → technology_id (technology_by id) ≡ id
 unfolding technology_by
 id_by zero h = refl
 id_by (suc zero) h = refl

@@ -1,5 +1,5 @@
 -- What any run of calls lays out, piece by piece, is the comparison of the two whole logs.
-use Rattle.std.proofs.Common.{◌≡◌, ℕ, ◌-◌, ◌*◌, ◌/◌, ◌%◌, ◌^◌, ◌<◌, ◌≤◌, Bool, true, eqb, ltb, List, [], ◌∷◌, ◌++◌, length, drop, sym, refl, ap, ◌∙◌, append_assoc, arith, length-append, length-drop}
+use Rattle.std.proofs.Common.{◌≡◌, ℕ, ◌-◌, ◌*◌, ◌/◌, ◌%◌, ◌^◌, ◌<◌, ◌≤◌, Bool, true, List, [], ◌∷◌, ◌++◌, length, drop, sym, refl, ap, ◌∙◌, append_assoc, arith, length-append, length-drop}
 use native.Mathlib.Nat.{min-le_left}
 use Rattle.bench_log.specs.LogRecord.{record_size, records_in, whole_records}
 use Rattle.bench_log.specs.Items.{how_many, counters_after, texts_after, tally}

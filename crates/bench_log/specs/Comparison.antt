@@ -1,5 +1,5 @@
 -- The comparison of two logs by position: what is said of a pair of records, the lines, and the text for two whole logs.
-use Rattle.std.specs.Prelude.{◌≡◌, ℕ, ◌*◌, ◌/◌, ◌%◌, ◌<◌, min, Bool, true, false, cond, ◌&&◌, ltb, ◌⊎◌, List, [], ◌∷◌, ◌++◌, map, length, take, drop, ◌==◌, nat_eq, nat_lt}
+use Rattle.std.specs.Prelude.{◌≡◌, ℕ, ◌*◌, ◌/◌, ◌%◌, ◌<◌, min, Bool, true, false, cond, ◌&&◌, ◌⊎◌, List, [], ◌∷◌, ◌++◌, map, length, take, drop, ◌==◌}
 use Prim.Native.String.{String}
 use mathlib.Core.List.{flatten, Memᴰ}
 use Rattle.std.proofs.Math.Option.{Option, none, some}

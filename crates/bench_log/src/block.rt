@@ -7,7 +7,7 @@ ghost use Rattle.bench_log.specs.Comparison.{difference_lines};
 ghost use Rattle.bench_log.specs.Inner.BlockFields.{is_width, are_fields, field_differences, field_end, field_limit, FieldReady};
 ghost use Rattle.bench_log.specs.Inner.Differences.{column_by, technology_by};
 
-use crate::difference::{put_numbers, put_strings};
+use crate::difference::Heading;
 use codec::technology::{CS, NAN, UWB};
 
 // A field of a block, with its name.
@@ -125,14 +125,13 @@ pub(crate) struct Reached {
 pub(crate) fn put_field(
     out: &mut [u8],
     from: Reached,
-    number: u64,
-    technology: &[u8],
+    heading: Heading,
     field: Field,
     left: &[u8],
     right: &[u8],
 ) -> Reached
-    requires { FieldReady technology.now field left.now from.left right.now from.right from.out out.old }
-    ensures text { Put out.old from.out (difference_lines number (field_differences technology.now field left.now from.left right.now from.right)) out.new result.out }
+    requires { FieldReady heading.technology.now field left.now from.left right.now from.right from.out out.old }
+    ensures text { Put out.old from.out (difference_lines heading.number (field_differences heading.technology.now field left.now from.left right.now from.right)) out.new result.out }
     ensures limit { result.out ≤ from.out + field_limit field left.now from.left right.now from.right }
     ensures read { (result.left ≡ field_end field from.left left.now) × (result.right ≡ field_end field from.right right.now) }
 {
@@ -141,7 +140,7 @@ pub(crate) fn put_field(
             let x = number_at(left, from.left, width);
             let y = number_at(right, from.right, width);
             Reached {
-                out: put_numbers(out, from.out, number, technology, name, x, y),
+                out: heading.put_numbers(out, from.out, name, x, y),
                 left: from.left + width,
                 right: from.right + width,
             }
@@ -152,7 +151,7 @@ pub(crate) fn put_field(
             let x = &left[from.left..a];
             let y = &right[from.right..b];
             Reached {
-                out: put_strings(out, from.out, number, technology, name, x, y),
+                out: heading.put_strings(out, from.out, name, x, y),
                 left: a,
                 right: b,
             }
@@ -160,21 +159,13 @@ pub(crate) fn put_field(
         Counted(length, name) => {
             let m = left[from.left];
             let n = right[from.right];
-            let next = put_numbers(
-                out,
-                from.out,
-                number,
-                technology,
-                length,
-                u64::from(m),
-                u64::from(n),
-            );
+            let next = heading.put_numbers(out, from.out, length, u64::from(m), u64::from(n));
             let a = from.left + 1 + usize::from(m);
             let b = from.right + 1 + usize::from(n);
             let x = &left[from.left + 1..a];
             let y = &right[from.right + 1..b];
             Reached {
-                out: put_strings(out, next, number, technology, name, x, y),
+                out: heading.put_strings(out, next, name, x, y),
                 left: a,
                 right: b,
             }

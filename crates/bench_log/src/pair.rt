@@ -6,7 +6,7 @@ ghost use Rattle.bench_log.specs.Text.{decimal};
 ghost use Rattle.bench_log.specs.Comparison.{shown, difference_lines, pair_lines, pair_kind, position_limit};
 ghost use Rattle.bench_log.specs.Inner.Pairs.{Sees, head_differences};
 
-use crate::difference::{put_numbers, wide};
+use crate::difference::Heading;
 use crate::kinds::Kind;
 use crate::layout::take_apart;
 use crate::messages::put_messages;
@@ -66,23 +66,22 @@ fn put_heads(
     requires { at + 177 ≤ length out.old }
     ensures { Put out.old at (difference_lines number (head_differences left right refusal other)) out.new result × (result ≤ at + 177) }
 {
-    let next = put_numbers(out, at, number, b"", b"direction", wide(left), wide(right));
-    put_numbers(
+    let heading = Heading::of_record(number);
+    let next = heading.put_numbers(out, at, b"direction", u64::from(left), u64::from(right));
+    heading.put_numbers(
         out,
         next,
-        number,
-        b"",
         b"refusal number",
-        wide(refusal),
-        wide(other),
+        u64::from(refusal),
+        u64::from(other),
     )
 }
 
 // The lines of the fields that both have and that differ.
 fn put_differences(out: &mut [u8], at: usize, number: u64, left: &[u8], right: &[u8]) -> usize
-    requires { at + 2480 ≤ length out.old }
+    requires { at + 2481 ≤ length out.old }
     ensures { (Octets left.now × Octets right.now)
-        × (Put out.old at (difference_lines number (shown left.now right.now)) out.new result × (result ≤ at + 2480)) }
+        × (Put out.old at (difference_lines number (shown left.now right.now)) out.new result × (result ≤ at + 2481)) }
 {
     let l = look_at(left);
     let r = look_at(right);

@@ -1,25 +1,11 @@
 // What differs in the blocks of two messages: a section for each technology that both have.
-ghost use Rattle.std.specs.Prelude.{◌≡◌, ◌+◌, ◌<◌, ◌≤◌, length};
+ghost use Rattle.std.specs.Prelude.{◌≡◌, ◌+◌, ◌<◌, ◌≤◌};
 ghost use Rattle.codec.specs.Inner.Puts.{Put};
-ghost use Rattle.bench_log.specs.Fields.{prefix};
 ghost use Rattle.bench_log.specs.Comparison.{difference_lines};
 ghost use Rattle.bench_log.specs.Inner.Differences.{technology_by, column_by, block_at, BlockReady, section_in, section_limit, SectionReady};
 
 use crate::block::{Column, Reached, fields_of, put_field};
-use codec::technology::{CS, NAN, UWB};
-
-// What is before the names of a technology's fields.
-fn prefix(id: u8) -> &'static [u8]
-    ensures words { result.now ≡ prefix (technology_by id) }
-    ensures short { length result.now ≤ 5 }
-{
-    match id {
-        UWB => b"UWB ",
-        CS => b"CS ",
-        NAN => b"NAN ",
-        _ => b"RSSI ",
-    }
-}
+use crate::difference::Heading;
 
 // Two blocks of a technology.
 fn put_blocks(
@@ -35,7 +21,7 @@ fn put_blocks(
     ensures { Put out.old at (difference_lines number (block_at (column_by column) (technology_by id) left.now right.now)) out.new result
         × (result ≤ at + section_limit (column_by column) (technology_by id)) }
 {
-    let technology = prefix(id);
+    let heading = Heading::of_block(number, id);
     let fields = fields_of(column, id);
     let mut reached = Reached {
         out: at,
@@ -43,7 +29,7 @@ fn put_blocks(
         right: 2,
     };
     for field in fields {
-        reached = put_field(out, reached, number, technology, *field, left, right);
+        reached = put_field(out, reached, heading, *field, left, right);
     }
     reached.out
 }

@@ -95,7 +95,7 @@ read_differences a b = cond (a.id == b.id) (message_differences a b (row a.id).c
 
 -- their lines take at most so many octets
 abbrev pub messages_limit : ℕ
-messages_limit = 2300
+messages_limit = 2304
 
 pub record MessagesReady (l places r others : List ℕ) (at : ℕ) (d : List ℕ) : Type 0 where
   pub left : Located l 0 places

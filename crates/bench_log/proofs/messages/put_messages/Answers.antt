@@ -10,7 +10,10 @@ pub bounds-right-1 : goal.bounds-right-1
 bounds-right-1 c = omega (arith, c.requires.right.four refl)
 
 pub returns-then-id-other : goal.returns-then-id-other
-returns-then-id-other c = put_ids _ c.args.left.now c.args.a.now c.args.right.now c.args.b.now (λ e. omega (arith, e)) c.wide.ensures c.wide-then-id-other.ensures c.put_numbers.ensures
+returns-then-id-other c =
+    let e = c.of_record.ensures in
+    let p = rw (e.0, e.1) at c.put_numbers.ensures in
+    put_ids _ c.args.left.now c.args.a.now c.args.right.now c.args.b.now (λ e. omega (arith, e)) c.from.ensures c.from-then-id-other.ensures (p.text, p.limit)
 
 pub set_in-s-requires : goal.set_in-s-requires
 set_in-s-requires c = c.requires.left.four refl
