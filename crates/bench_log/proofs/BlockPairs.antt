@@ -8,7 +8,7 @@ use Rattle.codec.specs.Blocks.{Column, cell}
 use Rattle.codec.specs.Inner.Places.{Roomy}
 use Rattle.codec.specs.Inner.Puts.{Put}
 use Rattle.codec.proofs.Outcomes.{and_true_lem}
-use Rattle.codec.proofs.Laws.{part_length, suffix}
+use Rattle.codec.proofs.Laws.{part_length}
 use Rattle.codec.proofs.Layouts.{roomy_from}
 use Rattle.codec.proofs.Puts.{put_then, put_none}
 use Rattle.bench_log.specs.Text.{ascii}
@@ -194,9 +194,6 @@ module _ (k : Column) (id : ℕ) (below : id < 4) {s u at : ℕ} {l places r oth
   section_none n f = (rw (both, f) (put_none d at (omega (arith, h.room))), omega arith)
 
   module _ (p : present ≡ true) where
-    abbrev from : List ℕ → ℕ → List ℕ
-    from m x = take (length m - x) (drop x m)
-
     left : Roomy (cell k (technology_by id)) 2 (drop a l)
     left = rw (id_by id below) at (h.left (both ∙ p))
 
@@ -209,13 +206,13 @@ module _ (k : Column) (id : ℕ) (below : id < 4) {s u at : ℕ} {l places r oth
     pub section_right : b ≤ length r
     section_right = omega (arith, roomy_from (cell k (technology_by id)) 2 (drop b r) right, length-drop b r)
 
-    pub section_ready : BlockReady k (technology_by id) (from l a) (from r b) at d
-    section_ready = record { left = rw (suffix a l) left; right = rw (suffix b r) right; room = h.room }
+    pub section_ready : BlockReady k (technology_by id) (drop a l) (drop b r) at d
+    section_ready = record { left = left; right = right; room = h.room }
 
-    pub section_put : (n : ℕ) {f : List ℕ} {q : ℕ} → Put d at (difference_lines n (block_at k (technology_by id) (from l a) (from r b))) f q × (q ≤ at + section_limit k (technology_by id))
+    pub section_put : (n : ℕ) {f : List ℕ} {q : ℕ} → Put d at (difference_lines n (block_at k (technology_by id) (drop a l) (drop b r))) f q × (q ≤ at + section_limit k (technology_by id))
         → Put d at (difference_lines n (section_in k s u l places r others (technology_by id))) f q × (q ≤ at + section_limit k (technology_by id))
     unfolding section_in
-    section_put n g = (rw (both, p, id_by id below) (rw (suffix a l, suffix b r) at g.0), g.1)
+    section_put n g = (rw (both, p, id_by id below) g.0, g.1)
 
 -- the section of each technology, by its ID
 pub by_zero : technology_by 0 ≡ uwb

@@ -1,8 +1,7 @@
 // What differs in two accepted messages: the ID, and where it is equal which technologies are present, and the fields of their blocks.
 ghost use Rattle.std.specs.Prelude.{◌≡◌, ◌+◌, ◌<◌, ◌≤◌, map, length, if◌then◌else◌};
 ghost use mathlib.Core.List.{flatten};
-ghost use Rattle.codec.specs.Technology.{uwb, cs, nan, rssi, technologies, bit, known};
-ghost use Rattle.codec.specs.Message.{set_of};
+ghost use Rattle.codec.specs.Technology.{uwb, cs, nan, rssi, technologies, bit};
 ghost use Rattle.codec.specs.Inner.Places.{record_at};
 ghost use Rattle.codec.specs.Inner.Puts.{Put};
 ghost use Rattle.bench_log.specs.Comparison.{difference_lines};
@@ -10,9 +9,10 @@ ghost use Rattle.bench_log.specs.Inner.Differences.{presence_difference, technol
 
 use crate::block::Column;
 use crate::difference::Heading;
+use crate::found::Found;
 use crate::sections::put_section;
 use codec::message::{CAPABILITY_RESPONSE, CONFIGURATION};
-use codec::technology::{CS, NAN, RSSI, SET_LIMIT, UWB};
+use codec::technology::{CS, NAN, RSSI, UWB};
 
 fn presence(set: u16, id: u8) -> u64
     ensures { result ≡ (if bit set id then 1 else 0) }
@@ -47,92 +47,49 @@ fn put_presences(out: &mut [u8], at: usize, number: u64, left: u16, right: u16) 
     put_presence(out, rssi, number, RSSI, left, right)
 }
 
-// The blocks of the technologies in both of two sets.
+// The blocks of the technologies in the sets of both messages.
 fn put_sections(
     out: &mut [u8],
     at: usize,
     number: u64,
     column: Column,
-    s: u16,
-    u: u16,
-    left: &[u8],
-    a: &[u16; 5],
-    right: &[u8],
-    b: &[u16; 5],
+    left: &Found,
+    right: &Found,
 ) -> usize
-    requires { SectionsReady (column_by column) s u left.now a.now right.now b.now at out.old }
-    ensures { Put out.old at (difference_lines number (flatten (map (section_in (column_by column) s u left.now a.now right.now b.now) technologies))) out.new result
+    requires { SectionsReady (column_by column) left.now.set right.now.set left.now.message.now left.now.places.now right.now.message.now right.now.places.now at out.old }
+    ensures { Put out.old at (difference_lines number (flatten (map (section_in (column_by column) left.now.set right.now.set left.now.message.now left.now.places.now right.now.message.now right.now.places.now) technologies))) out.new result
         × (result ≤ at + (section_limit (column_by column) uwb + (section_limit (column_by column) cs + (section_limit (column_by column) nan + section_limit (column_by column) rssi)))) }
 {
-    let p = put_section(out, at, number, column, UWB, s, u, left, a, right, b);
-    let q = put_section(out, p, number, column, CS, s, u, left, a, right, b);
-    let r = put_section(out, q, number, column, NAN, s, u, left, a, right, b);
-    put_section(out, r, number, column, RSSI, s, u, left, a, right, b)
+    let p = put_section(out, at, number, column, UWB, left, right);
+    let q = put_section(out, p, number, column, CS, left, right);
+    let r = put_section(out, q, number, column, NAN, left, right);
+    put_section(out, r, number, column, RSSI, left, right)
 }
 
-// The set of a message, without reserved bits.
-fn set_in(message: &[u8]) -> u16
-    requires { 4 ≤ length message.now }
-    ensures { result ≡ known (set_of message.now) }
-{
-    u16::from_le_bytes([message[2], message[3]]) % SET_LIMIT
-}
-
-// Two accepted messages, whose blocks begin at these places.
+// Two accepted messages.
 pub(crate) fn put_messages(
     out: &mut [u8],
     at: usize,
     number: u64,
-    left: &[u8],
-    a: &[u16; 5],
-    right: &[u8],
-    b: &[u16; 5],
+    left: &Found,
+    right: &Found,
 ) -> usize
-    requires { MessagesReady left.now a.now right.now b.now at out.old }
-    ensures { Put out.old at (difference_lines number (read_differences (record_at left.now a.now) (record_at right.now b.now))) out.new result
+    requires { MessagesReady left.now.message.now left.now.places.now right.now.message.now right.now.places.now at out.old }
+    ensures { Put out.old at (difference_lines number (read_differences (record_at left.now.message.now left.now.places.now) (record_at right.now.message.now right.now.places.now))) out.new result
         × (result ≤ at + messages_limit) }
 {
-    let id = left[1];
-    let other = right[1];
+    let id = left.id();
+    let other = right.id();
     if id != other {
-        return Heading::of_record(number).put_numbers(
-            out,
-            at,
-            b"message ID",
-            u64::from(id),
-            u64::from(other),
-        );
+        let heading = Heading::of_record(number);
+        return heading.put_numbers(out, at, b"message ID", u64::from(id), u64::from(other));
     }
-    let s = set_in(left);
-    let u = set_in(right);
-    let next = put_presences(out, at, number, s, u);
-    if id == CAPABILITY_RESPONSE {
-        return put_sections(
-            out,
-            next,
-            number,
-            Column::Capabilities,
-            s,
-            u,
-            left,
-            a,
-            right,
-            b,
-        );
+    let next = put_presences(out, at, number, left.set, right.set);
+    match id {
+        CAPABILITY_RESPONSE => {
+            put_sections(out, next, number, Column::Capabilities, left, right)
+        }
+        CONFIGURATION => { put_sections(out, next, number, Column::Configurations, left, right) }
+        _ => next,
     }
-    if id == CONFIGURATION {
-        return put_sections(
-            out,
-            next,
-            number,
-            Column::Configurations,
-            s,
-            u,
-            left,
-            a,
-            right,
-            b,
-        );
-    }
-    next
 }

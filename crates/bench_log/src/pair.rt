@@ -7,6 +7,7 @@ ghost use Rattle.bench_log.specs.Comparison.{shown, difference_lines, pair_lines
 ghost use Rattle.bench_log.specs.Inner.Pairs.{Sees, head_differences};
 
 use crate::difference::Heading;
+use crate::found::Found;
 use crate::kinds::Kind;
 use crate::layout::take_apart;
 use crate::messages::put_messages;
@@ -100,17 +101,9 @@ fn put_differences(out: &mut [u8], at: usize, number: u64, left: &[u8], right: &
     if r.refusal != 0 {
         return next;
     }
-    let x = l.end;
-    let y = r.end;
-    put_messages(
-        out,
-        next,
-        number,
-        &left[4..x],
-        &l.places,
-        &right[4..y],
-        &r.places,
-    )
+    let x = Found::new(&left[4..l.end], &l.places);
+    let y = Found::new(&right[4..r.end], &r.places);
+    put_messages(out, next, number, &x, &y)
 }
 
 // A record's number, and words.

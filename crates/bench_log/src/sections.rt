@@ -6,6 +6,7 @@ ghost use Rattle.bench_log.specs.Inner.Differences.{technology_by, column_by, bl
 
 use crate::block::{Column, Reached, fields_of, put_field};
 use crate::difference::Heading;
+use crate::found::Found;
 
 // Two blocks of a technology.
 fn put_blocks(
@@ -34,36 +35,22 @@ fn put_blocks(
     reached.out
 }
 
-// A place that is kept in 16 bits.
-fn wide(place: u16) -> usize
-    ensures { result ≡ place }
-{
-    place as usize
-}
-
-// The section of a technology, if it is in both of two sets: its blocks begin at places of two messages.
+// The section of a technology, if it is in the sets of both messages.
 pub(crate) fn put_section(
     out: &mut [u8],
     at: usize,
     number: u64,
     column: Column,
     id: u8,
-    s: u16,
-    u: u16,
-    left: &[u8],
-    a: &[u16; 5],
-    right: &[u8],
-    b: &[u16; 5],
+    left: &Found,
+    right: &Found,
 ) -> usize
-    requires { (id < 4) × SectionReady (column_by column) (technology_by id) s u left.now a.now right.now b.now at out.old }
-    ensures { Put out.old at (difference_lines number (section_in (column_by column) s u left.now a.now right.now b.now (technology_by id))) out.new result
+    requires { (id < 4) × SectionReady (column_by column) (technology_by id) left.now.set right.now.set left.now.message.now left.now.places.now right.now.message.now right.now.places.now at out.old }
+    ensures { Put out.old at (difference_lines number (section_in (column_by column) left.now.set right.now.set left.now.message.now left.now.places.now right.now.message.now right.now.places.now (technology_by id))) out.new result
         × (result ≤ at + section_limit (column_by column) (technology_by id)) }
 {
-    if !codec::both_have(s, u, id) {
+    if !codec::both_have(left.set, right.set, id) {
         return at;
     }
-    let i = id as usize;
-    let x = wide(a[i]);
-    let y = wide(b[i]);
-    put_blocks(out, at, number, column, id, &left[x..], &right[y..])
+    put_blocks(out, at, number, column, id, left.block(id), right.block(id))
 }
