@@ -12,7 +12,7 @@ ghost use Rattle.bench_log.specs.Inner.Pairs.{only_on, side_text};
 use crate::entry::{Entry, entry_of};
 use crate::kinds::{Kind, Kinds};
 use crate::layout::RECORD_SIZE;
-use crate::listing::{least, put_entry, put_field};
+use crate::listing::{put_entry, put_field};
 use crate::pair::put_pair;
 use crate::text::{decimal_length, put, put_number, put_text};
 use codec::Written;
@@ -42,8 +42,7 @@ fn tell_pairs(out: &mut [u8], before: Kinds, left: &[u8], right: &[u8], count: u
 {
     let mut kinds = before;
     let mut length = 0;
-    let mut i = 0;
-    while i < count {
+    for i in 0..count {
         let at = i * RECORD_SIZE;
         let end = at + RECORD_SIZE;
         let said = put_pair(
@@ -55,7 +54,6 @@ fn tell_pairs(out: &mut [u8], before: Kinds, left: &[u8], right: &[u8], count: u
         );
         length = said.end;
         kinds = kinds.counted(said.kind);
-        i += 1;
     }
     Compared { kinds, length }
 }
@@ -101,13 +99,11 @@ fn tell_only(out: &mut [u8], told: Compared, side: Side, piece: &[u8], count: us
     let kind = side.kind();
     let mut kinds = told.kinds;
     let mut length = told.length;
-    let mut i = 0;
-    while i < count {
+    for i in 0..count {
         let at = i * RECORD_SIZE;
         let e = entry_of(&piece[at..at + RECORD_SIZE]);
         length = put_only(out, length, kinds.positions, side, e);
         kinds = kinds.counted(kind);
-        i += 1;
     }
     Compared { kinds, length }
 }
@@ -119,9 +115,9 @@ pub fn compare(left: &[u8], right: &[u8], before: Kinds, out: &mut [u8]) -> Comp
     ensures { Compares left.now right.now before out.old result out.new }
 {
     let room = out.len() / POSITION_LIMIT;
-    let a = least(left.len() / RECORD_SIZE, room);
-    let b = least(right.len() / RECORD_SIZE, room);
-    let pairs = least(a, b);
+    let a = (left.len() / RECORD_SIZE).min(room);
+    let b = (right.len() / RECORD_SIZE).min(room);
+    let pairs = a.min(b);
     let from = pairs * RECORD_SIZE;
     let paired = tell_pairs(out, before, left, right, pairs);
     let told = tell_only(out, paired, Side::Left, &left[from..], a - pairs);

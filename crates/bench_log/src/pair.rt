@@ -55,26 +55,25 @@ fn look_at(octets: &[u8]) -> Seen
 }
 
 // The lines of the directions and the refusal numbers.
-fn put_heads(
-    out: &mut [u8],
-    at: usize,
-    number: u64,
-    left: u8,
-    right: u8,
-    refusal: u8,
-    other: u8,
-) -> usize
+fn put_heads(out: &mut [u8], at: usize, number: u64, left: &Seen, right: &Seen) -> usize
     requires { at + 177 ≤ length out.old }
-    ensures { Put out.old at (difference_lines number (head_differences left right refusal other)) out.new result × (result ≤ at + 177) }
+    ensures { Put out.old at (difference_lines number (head_differences left.now.direction right.now.direction left.now.refusal right.now.refusal)) out.new result
+        × (result ≤ at + 177) }
 {
     let heading = Heading::of_record(number);
-    let next = heading.put_numbers(out, at, b"direction", u64::from(left), u64::from(right));
+    let next = heading.put_numbers(
+        out,
+        at,
+        b"direction",
+        u64::from(left.direction),
+        u64::from(right.direction),
+    );
     heading.put_numbers(
         out,
         next,
         b"refusal number",
-        u64::from(refusal),
-        u64::from(other),
+        u64::from(left.refusal),
+        u64::from(right.refusal),
     )
 }
 
@@ -86,15 +85,7 @@ fn put_differences(out: &mut [u8], at: usize, number: u64, left: &[u8], right: &
 {
     let l = look_at(left);
     let r = look_at(right);
-    let next = put_heads(
-        out,
-        at,
-        number,
-        l.direction,
-        r.direction,
-        l.refusal,
-        r.refusal,
-    );
+    let next = put_heads(out, at, number, &l, &r);
     if l.refusal != 0 {
         return next;
     }
