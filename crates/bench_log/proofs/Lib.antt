@@ -5,8 +5,7 @@ pub mod Aligned
 pub mod Shown
 pub mod Readings
 pub mod Differences
-pub mod Walking
-pub mod Coded
+pub mod BlockPairs
 pub mod MessagePairs
 pub mod Decimals
 pub mod Entries

@@ -19,8 +19,7 @@ use Rattle.codec.proofs.Puts.{put_then}
 use Rattle.codec.specs.declared.records.Record.{Record}
 use Rattle.bench_log.specs.Fields.{message_id_name, amount}
 use Rattle.bench_log.specs.Comparison.{Difference, difference, difference_lines}
-use Rattle.bench_log.specs.Inner.Coded.{lines_limit}
-use Rattle.bench_log.specs.Inner.Differences.{section_differences, presence_difference, block_at, section_limit, section_in, SectionsReady, read_differences, messages_limit, MessagesReady}
+use Rattle.bench_log.specs.Inner.Differences.{section_differences, presence_difference, block_at, lines_limit, section_limit, section_in, SectionsReady, read_differences, messages_limit, MessagesReady}
 use Rattle.bench_log.proofs.Differences.{lines_append}
 
 column_in_lem : (m places : List ℕ) (k : Column) → column_in (record_at m places) k ≡ column_found m places k
@@ -79,7 +78,7 @@ module _ {l places r others d : List ℕ} {at : ℕ} (h : MessagesReady l places
     each_is [] = refl
     each_is (t ∷ ts) = rw (section_is t, each_is ts)
 
-    pub sections_ready : {f : List ℕ} {p : ℕ} → p + messages_limit ≤ length f + 356 → SectionsReady k s u l places r others p f
+    pub sections_ready : {f : List ℕ} {p : ℕ} → p + messages_limit ≤ length f + 360 → SectionsReady k s u l places r others p f
     sections_ready g = record {
       left = λ t y. block_there h.left h.octets.0 k e t (and_true_lem (names s t) (names u t) y).0;
       right = λ t y. block_there h.right h.octets.1 k (sym same ∙ e) t (and_true_lem (names s t) (names u t) y).1;
@@ -105,7 +104,7 @@ put_ids n l places r others ne ex ey p = rw (ne_eqb (id_of l) (id_of r) ne, ← 
 
 module _ {l places r others d : List ℕ} {at : ℕ} (h : MessagesReady l places r others at d) (same : id_of l ≡ id_of r) where
   pub put_sectioned : (n : ℕ) {x y p q : ℕ} {e f : List ℕ} (k : Column) → id_of l ≡ message_of k → x ≡ known (set_of l) → y ≡ known (set_of r)
-      → Put d at (difference_lines n (flatten (map (presence_difference x y) technologies))) e p × (p ≤ at + 356)
+      → Put d at (difference_lines n (flatten (map (presence_difference x y) technologies))) e p × (p ≤ at + 360)
       → Put e p (difference_lines n (flatten (map (section_in k x y l places r others) technologies))) f q × (q ≤ p + column_limit k)
       → Put d at (difference_lines n (read_differences (record_at l places) (record_at r others))) f q × (q ≤ at + messages_limit)
   put_sectioned n {x} {y} k i ex ey a b = (
@@ -114,6 +113,6 @@ module _ {l places r others d : List ℕ} {at : ℕ} (h : MessagesReady l places
   )
 
   pub put_plain : (n : ℕ) {x y p : ℕ} {e : List ℕ} → (id_of l ≡ 1 → ⊥) → (id_of l ≡ 2 → ⊥) → x ≡ known (set_of l) → y ≡ known (set_of r)
-      → Put d at (difference_lines n (flatten (map (presence_difference x y) technologies))) e p × (p ≤ at + 356)
+      → Put d at (difference_lines n (flatten (map (presence_difference x y) technologies))) e p × (p ≤ at + 360)
       → Put d at (difference_lines n (read_differences (record_at l places) (record_at r others))) e p × (p ≤ at + messages_limit)
   put_plain n i j ex ey a = (rw (without_blocks_lem h same i j, ← ex, ← ey) a.0, omega (arith, a.1))

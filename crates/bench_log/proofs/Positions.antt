@@ -1,5 +1,5 @@
 -- Positions in two logs: one after the other, and as the code takes them.
-use Rattle.std.proofs.Common.{◌≡◌, ℕ, ◌+◌, ◌-◌, ◌*◌, ◌/◌, ◌<◌, ◌≤◌, min, Bool, true, false, cond, leb, List, [], ◌∷◌, ◌++◌, map, length, take, drop, sym, refl, ap, ◌∙◌, subst, append-nil, arith, length-append, length-drop, leb-false, leb-true}
+use Rattle.std.proofs.Common.{◌≡◌, ℕ, ◌+◌, ◌-◌, ◌*◌, ◌/◌, ◌<◌, ◌≤◌, min, leb, List, [], ◌∷◌, ◌++◌, map, length, take, drop, sym, refl, ap, ◌∙◌, subst, append-nil, arith, length-append, length-drop, leb-false, leb-true}
 use native.Mathlib.Nat.{min-le_left, min-le_right, min-eq_left, min-eq_right}
 use mathlib.Core.List.{map-append}
 use Rattle.codec.specs.Octets.{part}
@@ -14,6 +14,9 @@ use Rattle.bench_log.specs.declared.entry.Entry.{Entry}
 use Rattle.bench_log.specs.Comparison.{pair_lines, pair_kind, Position, both, only_left, only_right, positions, position_lines, kind_of, pairs_text, rest_text, sum_line, counted, next_lines, next_kinds, position_limit, tellable, Compares}
 use Rattle.bench_log.specs.Inner.Items.{SoFar}
 use Rattle.bench_log.specs.Inner.Pairs.{only_on, side_text}
+use Rattle.bench_log.specs.declared.comparison.Side.{Side}
+use Rattle.bench_log.specs.declared.comparison.Side.TheVariants.{Left, Right}
+use Rattle.bench_log.specs.declared.kinds.Kind.{Kind}
 use Rattle.bench_log.specs.declared.kinds.Kinds.{Kinds}
 use Rattle.bench_log.proofs.Items.{more_told, one_told, all_told}
 use Rattle.bench_log.proofs.Records.{records_length, records_split, next_record}
@@ -51,27 +54,23 @@ module _ (l r : List ℕ) (i : ℕ) where
       sym (positions_append (records_in i l) (records_in i r) (next i l ∷ []) (next i r ∷ []) (λ n. absurd (omega (arith, a, b))) (λ n. absurd (omega (arith, a, b))))
       ∙ rw (next_record i l, next_record i r)
 
-  pub one_compared : {k u v : Kinds} {d b f : List ℕ} {n p kind : ℕ} → SoFar next_lines next_kinds (positions (records_in i l) (records_in i r)) k d 0 u b n
+  pub one_compared : {k u v : Kinds} {d b f : List ℕ} {n p : ℕ} {kind : Kind} → SoFar next_lines next_kinds (positions (records_in i l) (records_in i r)) k d 0 u b n
       → Put b n (pair_lines u.positions (next i l) (next i r)) f p → kind ≡ pair_kind (next i l) (next i r) → v ≡ counted u kind
       → SoFar next_lines next_kinds (positions (records_in (i + 1) l) (records_in (i + 1) r)) k d 0 v f p
   one_compared {k} {u} {v} {d} {b} {f} {n} {p} s w e c =
       subst (λ (ps : List Position). SoFar next_lines next_kinds ps k d 0 v f p) next_position (one_told next_lines next_kinds (both (next i l) (next i r)) s (rw e at c) w)
 
 -- a record that only one log has
-only_kind : (left : Bool) (r : List ℕ) → kind_of (only_on left r) ≡ cond left 3 4
-only_kind true r = refl
-only_kind false r = refl
+only_lines : (side : Side) (n : ℕ) (r : List ℕ) → position_lines n (only_on side r) ≡ decimal n ++ (side_text side ++ entry_text (entry_of r))
+only_lines Left n r = refl
+only_lines Right n r = refl
 
-only_lines : (left : Bool) (n : ℕ) (r : List ℕ) → position_lines n (only_on left r) ≡ decimal n ++ (side_text left ++ entry_text (entry_of r))
-only_lines true n r = refl
-only_lines false n r = refl
-
-pub one_only : (left : Bool) (piece : List ℕ) (i : ℕ) {k u v : Kinds} {d b f : List ℕ} {at n p kind : ℕ} (e : Entry) → SoFar next_lines next_kinds (map (only_on left) (records_in i piece)) k d at u b n
-    → e ≡ entry_of (next i piece) → kind ≡ cond left 3 4 → Put b n (decimal u.positions ++ (side_text left ++ entry_text e)) f p → v ≡ counted u kind
-    → SoFar next_lines next_kinds (map (only_on left) (records_in (i + 1) piece)) k d at v f p
-one_only left piece i {k} {u} {v} {d} {b} {f} {at} {n} {p} e s q g w c =
-    subst (λ (ps : List Position). SoFar next_lines next_kinds ps k d at v f p) (sym (map-append (only_on left) (records_in i piece) (next i piece ∷ [])) ∙ ap (map (only_on left)) (next_record i piece))
-    (one_told next_lines next_kinds (only_on left (next i piece)) s (rw (g, ← only_kind left (next i piece)) at c) (rw (q, ← only_lines left u.positions (next i piece)) at w))
+pub one_only : (side : Side) (piece : List ℕ) (i : ℕ) {k u v : Kinds} {d b f : List ℕ} {at n p : ℕ} {kind : Kind} (e : Entry)
+    → SoFar next_lines next_kinds (map (only_on side) (records_in i piece)) k d at u b n → e ≡ entry_of (next i piece) → ((r : List ℕ) → kind ≡ kind_of (only_on side r))
+    → Put b n (decimal u.positions ++ (side_text side ++ entry_text e)) f p → v ≡ counted u kind → SoFar next_lines next_kinds (map (only_on side) (records_in (i + 1) piece)) k d at v f p
+one_only side piece i {k} {u} {v} {d} {b} {f} {at} {n} {p} e s q g w c =
+    subst (λ (ps : List Position). SoFar next_lines next_kinds ps k d at v f p) (sym (map-append (only_on side) (records_in i piece) (next i piece ∷ [])) ∙ ap (map (only_on side)) (next_record i piece))
+    (one_told next_lines next_kinds (only_on side (next i piece)) s (rw (g (next i piece)) at c) (rw (q, ← only_lines side u.positions (next i piece)) at w))
 
 -- pairs, and then the records that only one piece has
 module _ (a b : ℕ) (l r : List ℕ) where

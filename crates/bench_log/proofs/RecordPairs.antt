@@ -19,6 +19,7 @@ use Rattle.bench_log.specs.Text.{ascii, decimal}
 use Rattle.bench_log.specs.Comparison.{same, Difference, difference, shown, is_same_reading, shown_contents, difference_line, difference_lines, pair_lines, pair_kind}
 use Rattle.bench_log.specs.Inner.Pairs.{direction_difference, head_differences, Sees}
 use Rattle.bench_log.specs.Inner.Differences.{read_differences, MessagesReady, messages_limit}
+use Rattle.bench_log.specs.declared.kinds.Kind.TheVariants.{SameReading, Different}
 use Rattle.bench_log.specs.declared.layout.Parts.{Parts}
 use Rattle.bench_log.specs.declared.pair.Seen.{Seen}
 use Rattle.bench_log.proofs.Entries.{apart, broken}
@@ -129,13 +130,13 @@ module _ (n : ℕ) (l r : List ℕ) {d e : List ℕ} {at p : ℕ} (other : same 
   said_same : p ≡ at → (shown l r ≡ []) × (is_same_reading l r ≡ true)
   said_same z = let x = nothing n (shown l r) (omega (arith, put.place)) in (x, (same_exactly l r o.0 o.1).1 x)
 
-  pub put_same : {f : List ℕ} {q : ℕ} → p ≡ at → Put e at (decimal n ++ ascii " same reading\n") f q → Put d at (pair_lines n l r) f q × (1 ≡ pair_kind l r)
+  pub put_same : {f : List ℕ} {q : ℕ} → p ≡ at → Put e at (decimal n ++ ascii " same reading\n") f q → Put d at (pair_lines n l r) f q × (SameReading ≡ pair_kind l r)
   unfolding difference_lines flatten
   put_same {f} {q} z w =
       let s = said_same z in
       (rw (other, s.1) (put_then (rw (s.0, z) at put) w), rw (other, s.1))
 
-  pub put_different : (p ≡ at → ⊥) → Put d at (pair_lines n l r) e p × (2 ≡ pair_kind l r)
+  pub put_different : (p ≡ at → ⊥) → Put d at (pair_lines n l r) e p × (Different ≡ pair_kind l r)
   unfolding difference_lines flatten
   put_different z =
       let s : is_same_reading l r ≡ false = by_bool (is_same_reading l r) (λ y. absurd (z (put.place ∙ rw ((same_exactly l r o.0 o.1).0 y) (omega arith)))) (λ y. y) in

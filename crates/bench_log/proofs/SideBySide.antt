@@ -1,9 +1,10 @@
 -- What any run of calls lays out, piece by piece, is the comparison of the two whole logs.
-use Rattle.std.proofs.Common.{◌≡◌, ℕ, ◌-◌, ◌*◌, ◌/◌, ◌%◌, ◌^◌, ◌<◌, ◌≤◌, Bool, true, eqb, ltb, List, [], ◌∷◌, ◌++◌, length, drop, sym, refl, ap, ◌∙◌, append_assoc, arith, length-append, length-drop}
+use Rattle.std.proofs.Common.{◌≡◌, ℕ, ◌-◌, ◌*◌, ◌/◌, ◌%◌, ◌^◌, ◌<◌, ◌≤◌, Bool, true, List, [], ◌∷◌, ◌++◌, length, drop, sym, refl, ap, ◌∙◌, append_assoc, arith, length-append, length-drop}
 use native.Mathlib.Nat.{min-le_left}
 use Rattle.bench_log.specs.LogRecord.{record_size, records_in, whole_records}
 use Rattle.bench_log.specs.Items.{how_many, counters_after, texts_after, tally}
-use Rattle.bench_log.specs.Comparison.{Position, positions, position_lines, kind_of, kinds, sum_line, comparison, no_positions, counted, next_lines, next_kinds, position_limit, tellable, left_of, Run, pieces, end}
+use Rattle.bench_log.specs.Comparison.{Position, positions, position_lines, kind_of, is_kind, is_pair, kinds, sum_line, comparison, no_positions, counted, next_lines, next_kinds, position_limit, tellable, left_of, Run, pieces, end}
+use Rattle.bench_log.specs.declared.kinds.Kind.TheVariants.{SameOctets, SameReading, Different, OnlyLeft, OnlyRight}
 use Rattle.bench_log.specs.declared.kinds.Kinds.{Kinds}
 use Rattle.bench_log.proofs.Items.{all_counted, counters_append, counted_all, texts_append, all_numbered, told_text}
 use Rattle.bench_log.proofs.Records.{records_length}
@@ -68,12 +69,12 @@ counting : (ps : List Position) → length ps < 2 ^ 64 → counters_after next_k
 unfolding counted
 counting ps h = λ i. record {
   positions = (from_zero ps h (λ k. k.positions) (λ p. true) refl (λ k p. refl) ∙ all_counted ps) i;
-  pairs = from_zero ps h (λ k. k.pairs) (λ p. ltb (kind_of p) 3) refl (λ k p. refl) i;
-  same_octets = from_zero ps h (λ k. k.same_octets) (λ p. eqb (kind_of p) 0) refl (λ k p. refl) i;
-  same_reading = from_zero ps h (λ k. k.same_reading) (λ p. eqb (kind_of p) 1) refl (λ k p. refl) i;
-  different = from_zero ps h (λ k. k.different) (λ p. eqb (kind_of p) 2) refl (λ k p. refl) i;
-  only_left = from_zero ps h (λ k. k.only_left) (λ p. eqb (kind_of p) 3) refl (λ k p. refl) i;
-  only_right = from_zero ps h (λ k. k.only_right) (λ p. eqb (kind_of p) 4) refl (λ k p. refl) i;
+  pairs = from_zero ps h (λ k. k.pairs) (λ p. is_pair (kind_of p)) refl (λ k p. refl) i;
+  same_octets = from_zero ps h (λ k. k.same_octets) (λ p. is_kind SameOctets (kind_of p)) refl (λ k p. refl) i;
+  same_reading = from_zero ps h (λ k. k.same_reading) (λ p. is_kind SameReading (kind_of p)) refl (λ k p. refl) i;
+  different = from_zero ps h (λ k. k.different) (λ p. is_kind Different (kind_of p)) refl (λ k p. refl) i;
+  only_left = from_zero ps h (λ k. k.only_left) (λ p. is_kind OnlyLeft (kind_of p)) refl (λ k p. refl) i;
+  only_right = from_zero ps h (λ k. k.only_right) (λ p. is_kind OnlyRight (kind_of p)) refl (λ k p. refl) i;
 }
 
 pub side_by_side : {l r text : List ℕ} → Run no_positions l r text → length l < record_size * 2 ^ 64 → length r < record_size * 2 ^ 64 → text ≡ comparison l r

@@ -1,5 +1,5 @@
 -- The comparison of two logs by position: what is said of a pair of records, the lines, and the text for two whole logs.
-use Rattle.std.specs.Prelude.{◌≡◌, ℕ, ◌*◌, ◌/◌, ◌%◌, ◌<◌, min, Bool, true, false, cond, ◌&&◌, ltb, ◌⊎◌, List, [], ◌∷◌, ◌++◌, map, length, take, drop, ◌==◌, nat_eq, nat_lt}
+use Rattle.std.specs.Prelude.{◌≡◌, ℕ, ◌*◌, ◌/◌, ◌%◌, ◌<◌, min, Bool, true, false, cond, ◌&&◌, ◌⊎◌, List, [], ◌∷◌, ◌++◌, map, length, take, drop, ◌==◌}
 use Prim.Native.String.{String}
 use mathlib.Core.List.{flatten, Memᴰ}
 use Rattle.std.proofs.Math.Option.{Option, none, some}
@@ -14,6 +14,8 @@ use Rattle.bench_log.specs.Items.{texts_from, how_many, tally, Tells}
 use Rattle.bench_log.specs.Text.{ascii, decimal, hexadecimal}
 use Rattle.bench_log.specs.Listing.{field, entry_text}
 use Rattle.bench_log.specs.Fields.{Contents, amount, string, LogField, message_id_name, fields_of, direction_name, refusal_name}
+use Rattle.bench_log.specs.declared.kinds.Kind.{Kind}
+use Rattle.bench_log.specs.declared.kinds.Kind.TheVariants.{SameOctets, SameReading, Different, OnlyLeft, OnlyRight}
 use Rattle.bench_log.specs.declared.kinds.Kinds.{Kinds}
 use Rattle.bench_log.specs.declared.comparison.Compared.{Compared}
 
@@ -128,25 +130,38 @@ position_lines n (both l r) = pair_lines n l r
 position_lines n (only_left r) = only_line n " only left:" r
 position_lines n (only_right r) = only_line n " only right:" r
 
--- ---- how many positions are of each kind: 0 same octets, 1 same reading, 2 different, 3 only left, 4 only right
+-- ---- the kind of a position, and how many positions are of each kind
 
-abbrev pub pair_kind : List ℕ → List ℕ → ℕ
-pair_kind l r = cond (same l r) 0 (cond (is_same_reading l r) 1 2)
+abbrev pub pair_kind : List ℕ → List ℕ → Kind
+pair_kind l r = cond (same l r) SameOctets (cond (is_same_reading l r) SameReading Different)
 
-abbrev pub kind_of : Position → ℕ
+abbrev pub kind_of : Position → Kind
 kind_of (both l r) = pair_kind l r
-kind_of (only_left r) = 3
-kind_of (only_right r) = 4
+kind_of (only_left r) = OnlyLeft
+kind_of (only_right r) = OnlyRight
+
+abbrev pub is_kind : Kind → Kind → Bool
+is_kind SameOctets SameOctets = true
+is_kind SameReading SameReading = true
+is_kind Different Different = true
+is_kind OnlyLeft OnlyLeft = true
+is_kind OnlyRight OnlyRight = true
+is_kind k m = false
+
+abbrev pub is_pair : Kind → Bool
+is_pair OnlyLeft = false
+is_pair OnlyRight = false
+is_pair k = true
 
 abbrev pub kinds : List Position → Kinds
 kinds ps = record {
   positions = length ps;
-  pairs = how_many (λ p. ltb (kind_of p) 3) ps;
-  same_octets = how_many (λ p. nat_eq (kind_of p) 0) ps;
-  same_reading = how_many (λ p. nat_eq (kind_of p) 1) ps;
-  different = how_many (λ p. nat_eq (kind_of p) 2) ps;
-  only_left = how_many (λ p. nat_eq (kind_of p) 3) ps;
-  only_right = how_many (λ p. nat_eq (kind_of p) 4) ps;
+  pairs = how_many (λ p. is_pair (kind_of p)) ps;
+  same_octets = how_many (λ p. is_kind SameOctets (kind_of p)) ps;
+  same_reading = how_many (λ p. is_kind SameReading (kind_of p)) ps;
+  different = how_many (λ p. is_kind Different (kind_of p)) ps;
+  only_left = how_many (λ p. is_kind OnlyLeft (kind_of p)) ps;
+  only_right = how_many (λ p. is_kind OnlyRight (kind_of p)) ps;
 }
 
 -- ---- of two whole logs
@@ -182,15 +197,15 @@ abbrev pub no_positions : Kinds
 no_positions = record { positions = 0; pairs = 0; same_octets = 0; same_reading = 0; different = 0; only_left = 0; only_right = 0 }
 
 -- with one position of this kind more
-unfoldable pub counted : Kinds → ℕ → Kinds
+unfoldable pub counted : Kinds → Kind → Kinds
 counted k kind = record {
   positions = tally true k.positions;
-  pairs = tally (nat_lt kind 3) k.pairs;
-  same_octets = tally (kind == 0) k.same_octets;
-  same_reading = tally (kind == 1) k.same_reading;
-  different = tally (kind == 2) k.different;
-  only_left = tally (kind == 3) k.only_left;
-  only_right = tally (kind == 4) k.only_right;
+  pairs = tally (is_pair kind) k.pairs;
+  same_octets = tally (is_kind SameOctets kind) k.same_octets;
+  same_reading = tally (is_kind SameReading kind) k.same_reading;
+  different = tally (is_kind Different kind) k.different;
+  only_left = tally (is_kind OnlyLeft kind) k.only_left;
+  only_right = tally (is_kind OnlyRight kind) k.only_right;
 }
 
 -- the lines of the position that comes after those that are counted, and the counters with it

@@ -1,108 +1,174 @@
-// What differs in two blocks with the same layout. A layout is held as octets: for each field a head, the length of its name, and its
-// name. The head is n for a number of n octets, 64 + n for n octets, and 128 + n for at most n octets, as many as the octet before
-// them says.
-ghost use Rattle.std.specs.Prelude.{◌≡◌, ◌+◌, ◌*◌, ◌<◌, ◌≤◌, true, ◌++◌, length};
+// What differs in a field of two blocks, and the fields of the blocks in 01's table.
+ghost use Rattle.std.specs.Prelude.{◌≡◌, ◌+◌, ◌*◌, ◌≤◌, true, length};
 ghost use Rattle.codec.specs.Octets.{of_le};
+ghost use Rattle.codec.specs.Blocks.{cell};
 ghost use Rattle.codec.specs.Inner.Puts.{Put};
-ghost use Rattle.bench_log.specs.Comparison.{difference, difference_lines};
-ghost use Rattle.bench_log.specs.Inner.Coded.{decoded, is_width, width, contents_by, item_differences, line_limit, lines_limit, FieldReady, Ready};
+ghost use Rattle.bench_log.specs.Comparison.{difference_lines};
+ghost use Rattle.bench_log.specs.Inner.BlockFields.{is_width, are_fields, field_differences, field_end, field_limit, FieldReady};
+ghost use Rattle.bench_log.specs.Inner.Differences.{column_by, technology_by};
 
-use crate::difference::{put_numbers, put_strings};
+use crate::difference::Heading;
+use codec::technology::{CS, NAN, UWB};
 
-fn wide(x: u8) -> usize
-    ensures { result ≡ x }
-{
-    x as usize
+// A field of a block, with its name.
+#[derive(Clone, Copy)]
+pub(crate) enum Field {
+    // A number of one, two or four octets, the lowest first.
+    Number(&'static [u8], usize),
+    // So many octets.
+    Octets(&'static [u8], usize),
+    // An octet that says how many, and then so many octets, each with its name.
+    Counted(&'static [u8], &'static [u8]),
 }
 
-fn joined(low: u8, high: u8) -> u64
-    ensures { (result ≡ low + 256 * high) × (result < 65536) }
-{
-    low as u64 + 256 * high as u64
+use Field::{Counted, Number, Octets};
+
+// A column of 01's table: the blocks of message 1, or of message 2.
+#[derive(Clone, Copy, Debug, PartialEq, Eq)]
+pub(crate) enum Column {
+    Capabilities,
+    Configurations,
 }
 
-// A number of one, two or four octets.
-fn number_of(s: &[u8]) -> u64
-    requires { is_width (length s.now) ≡ true }
-    ensures { result ≡ of_le (length s.now) 0 s.now }
+static UWB_CAPABILITY: [Field; 7] = [
+    Octets(b"address", 2),
+    Number(b"channels", 4),
+    Number(b"preamble indexes", 4),
+    Number(b"config IDs", 4),
+    Number(b"shortest interval", 2),
+    Number(b"shortest slot", 1),
+    Number(b"roles", 1),
+];
+
+static CS_CAPABILITY: [Field; 2] = [Number(b"security types", 1), Octets(b"address", 6)];
+
+static NAN_CAPABILITY: [Field; 4] = [
+    Number(b"features", 1),
+    Number(b"periodic", 1),
+    Number(b"bandwidth", 1),
+    Number(b"receive chains", 1),
+];
+
+static UWB_CONFIGURATION: [Field; 11] = [
+    Octets(b"address", 2),
+    Number(b"session ID", 4),
+    Number(b"config ID", 1),
+    Number(b"channel", 1),
+    Number(b"preamble index", 1),
+    Number(b"interval", 2),
+    Number(b"slot", 1),
+    Counted(b"key length", b"key"),
+    Octets(b"country", 2),
+    Number(b"role", 1),
+    Number(b"mode", 1),
+];
+
+static CS_CONFIGURATION: [Field; 2] = [Number(b"security level", 1), Octets(b"address", 6)];
+
+static NAN_CONFIGURATION: [Field; 3] = [
+    Counted(b"name length", b"name"),
+    Number(b"role", 1),
+    Number(b"periodic", 1),
+];
+
+// RSSI's blocks are alike in both columns.
+static RSSI_BLOCK: [Field; 1] = [Octets(b"address", 6)];
+
+// The fields of a block, in order.
+#[tactic(auto, unfolding(crate::specs::Inner::Differences::technology_by))]
+pub(crate) fn fields_of(column: Column, id: u8) -> &'static [Field]
+    ensures { are_fields result.now (cell (column_by column) (technology_by id)) ≡ true }
 {
-    if s.len() == 1 {
-        return joined(s[0], 0);
+    match id {
+        UWB => match column {
+            Column::Capabilities => &UWB_CAPABILITY,
+            Column::Configurations => &UWB_CONFIGURATION,
+        },
+        CS => match column {
+            Column::Capabilities => &CS_CAPABILITY,
+            Column::Configurations => &CS_CONFIGURATION,
+        },
+        NAN => match column {
+            Column::Capabilities => &NAN_CAPABILITY,
+            Column::Configurations => &NAN_CONFIGURATION,
+        },
+        _ => &RSSI_BLOCK,
     }
-    if s.len() == 2 {
-        return joined(s[0], s[1]);
-    }
-    joined(s[0], s[1]) + 65536 * joined(s[2], s[3])
 }
 
-// The line of a field, if it differs.
-fn put_field(
+// A number of one, two or four octets at a place of a block.
+fn number_at(block: &[u8], at: usize, width: usize) -> u64
+    requires { (is_width width ≡ true) × (at + width ≤ length block.now) }
+    ensures { result ≡ of_le width at block.now }
+{
+    match width {
+        1 => u64::from(block[at]),
+        2 => u64::from(u16::from_le_bytes([block[at], block[at + 1]])),
+        _ => u64::from(u32::from_le_bytes([
+            block[at],
+            block[at + 1],
+            block[at + 2],
+            block[at + 3],
+        ])),
+    }
+}
+
+// The places after what was written, and after what was read of two blocks.
+#[derive(Clone, Copy)]
+pub(crate) struct Reached {
+    pub out: usize,
+    pub left: usize,
+    pub right: usize,
+}
+
+// The lines of a field, if it differs.
+pub(crate) fn put_field(
     out: &mut [u8],
-    at: usize,
-    number: u64,
-    technology: &[u8],
-    head: u8,
-    name: &[u8],
+    from: Reached,
+    heading: Heading,
+    field: Field,
     left: &[u8],
     right: &[u8],
-) -> usize
-    requires { FieldReady technology.now head name.now left.now right.now at out.old }
-    ensures { Put out.old at (difference_lines number (difference (technology.now ++ name.now) (contents_by head left.now) (contents_by head right.now))) out.new result
-        × (result ≤ at + line_limit head + length name.now) }
+) -> Reached
+    requires { FieldReady heading.technology.now field left.now from.left right.now from.right from.out out.old }
+    ensures text { Put out.old from.out (difference_lines heading.number (field_differences heading.technology.now field left.now from.left right.now from.right)) out.new result.out }
+    ensures limit { result.out ≤ from.out + field_limit field left.now from.left right.now from.right }
+    ensures read { (result.left ≡ field_end field from.left left.now) × (result.right ≡ field_end field from.right right.now) }
 {
-    if head < 64 {
-        let x = number_of(left);
-        let y = number_of(right);
-        return put_numbers(out, at, number, technology, name, x, y);
+    match field {
+        Number(name, width) => {
+            let x = number_at(left, from.left, width);
+            let y = number_at(right, from.right, width);
+            Reached {
+                out: heading.put_numbers(out, from.out, name, x, y),
+                left: from.left + width,
+                right: from.right + width,
+            }
+        }
+        Octets(name, count) => {
+            let a = from.left + count;
+            let b = from.right + count;
+            let x = &left[from.left..a];
+            let y = &right[from.right..b];
+            Reached {
+                out: heading.put_strings(out, from.out, name, x, y),
+                left: a,
+                right: b,
+            }
+        }
+        Counted(length, name) => {
+            let m = left[from.left];
+            let n = right[from.right];
+            let next = heading.put_numbers(out, from.out, length, u64::from(m), u64::from(n));
+            let a = from.left + 1 + usize::from(m);
+            let b = from.right + 1 + usize::from(n);
+            let x = &left[from.left + 1..a];
+            let y = &right[from.right + 1..b];
+            Reached {
+                out: heading.put_strings(out, next, name, x, y),
+                left: a,
+                right: b,
+            }
+        }
     }
-    put_strings(out, at, number, technology, name, left, right)
-}
-
-// How many octets a field with this head has at a place of a block.
-fn octets_at(head: u8, block: &[u8], at: usize) -> usize
-    requires { (2 ≤ at) × (at ≤ length block.now) }
-    ensures { result ≡ width head block.now at }
-{
-    if head < 128 {
-        return wide(head % 64);
-    }
-    wide(block[at - 1])
-}
-
-// The lines of the fields that differ, of so many in the layout.
-pub(crate) fn put_fields(
-    out: &mut [u8],
-    at: usize,
-    number: u64,
-    technology: &[u8],
-    count: usize,
-    layout: &[u8],
-    left: &[u8],
-    right: &[u8],
-) -> usize
-    requires { Ready technology.now count layout.now left.now 2 right.now 2 at out.old }
-    ensures { Put out.old at (difference_lines number (item_differences technology.now (decoded count layout.now) left.now 2 right.now 2)) out.new result
-        × (result ≤ at + lines_limit (decoded count layout.now)) }
-{
-    let mut next = at;
-    let mut place = 0;
-    let mut a = 2;
-    let mut b = 2;
-    let mut todo = count;
-    while 0 < todo {
-        let head = layout[place];
-        let name = place + 2;
-        let end = name + wide(layout[place + 1]);
-        let x = a + octets_at(head, left, a);
-        let y = b + octets_at(head, right, b);
-        let title = &layout[name..end];
-        let l = &left[a..x];
-        let r = &right[b..y];
-        next = put_field(out, next, number, technology, head, title, l, r);
-        place = end;
-        a = x;
-        b = y;
-        todo -= 1;
-    }
-    next
 }

@@ -1,18 +1,18 @@
 // The comparison of two logs by position, laid out in a lent buffer: pairs of records, records that only one log has, and the last line.
-ghost use Rattle.std.specs.Prelude.{◌≡◌, ◌+◌, ◌*◌, ◌≤◌, ◌++◌, map, length, if◌then◌else◌};
+ghost use Rattle.std.specs.Prelude.{◌≡◌, ℕ, ◌+◌, ◌*◌, ◌≤◌, List, ◌++◌, map, length};
 ghost use Rattle.codec.specs.Inner.Puts.{Put};
 ghost use Rattle.codec.specs.Writing.{fitting, LaysOut};
 ghost use Rattle.bench_log.specs.Text.{decimal};
 ghost use Rattle.bench_log.specs.Listing.{entry_text};
 ghost use Rattle.bench_log.specs.LogRecord.{record_size, records_in};
-ghost use Rattle.bench_log.specs.Comparison.{positions, pairs_text, rest_text, sum_line, next_lines, next_kinds, position_limit, Compares};
+ghost use Rattle.bench_log.specs.Comparison.{positions, kind_of, pairs_text, rest_text, sum_line, next_lines, next_kinds, position_limit, Compares};
 ghost use Rattle.bench_log.specs.Inner.Items.{SoFar};
 ghost use Rattle.bench_log.specs.Inner.Pairs.{only_on, side_text};
 
 use crate::entry::{Entry, entry_of};
-use crate::kinds::{Kinds, ONLY_LEFT, ONLY_RIGHT, counted};
+use crate::kinds::{Kind, Kinds};
 use crate::layout::RECORD_SIZE;
-use crate::listing::{least, put_entry, put_field};
+use crate::listing::{put_entry, put_field};
 use crate::pair::put_pair;
 use crate::text::{decimal_length, put, put_number, put_text};
 use codec::Written;
@@ -28,6 +28,12 @@ pub struct Compared {
     pub length: usize,
 }
 
+#[derive(Clone, Copy, Debug, PartialEq, Eq)]
+enum Side {
+    Left,
+    Right,
+}
+
 // The lines of pairs of records, so many from the start of two pieces, at the start of the buffer.
 fn tell_pairs(out: &mut [u8], before: Kinds, left: &[u8], right: &[u8], count: usize) -> Compared
     requires { (count * record_size ≤ length left.now) × (count * record_size ≤ length right.now) × (count * position_limit ≤ length out.old) }
@@ -36,8 +42,7 @@ fn tell_pairs(out: &mut [u8], before: Kinds, left: &[u8], right: &[u8], count: u
 {
     let mut kinds = before;
     let mut length = 0;
-    let mut i = 0;
-    while i < count {
+    for i in 0..count {
         let at = i * RECORD_SIZE;
         let end = at + RECORD_SIZE;
         let said = put_pair(
@@ -48,54 +53,57 @@ fn tell_pairs(out: &mut [u8], before: Kinds, left: &[u8], right: &[u8], count: u
             &right[at..end],
         );
         length = said.end;
-        kinds = counted(kinds, said.kind);
-        i += 1;
+        kinds = kinds.counted(said.kind);
     }
     Compared { kinds, length }
 }
 
-fn only_kind(left: bool) -> u8
-    ensures { result ≡ (if left then 3 else 4) }
-{
-    if left { ONLY_LEFT } else { ONLY_RIGHT }
-}
-
-fn put_side(out: &mut [u8], at: usize, left: bool) -> usize
-    requires { at + 12 ≤ length out.old }
-    ensures { Put out.old at (side_text left) out.new result × (result ≤ at + 12) }
-{
-    if left {
-        return put_text(out, at, b" only left:");
+impl Side {
+    // The kind of a position of which only this side has a record.
+    fn kind(self) -> Kind
+        ensures { (r : List ℕ) → result ≡ kind_of (only_on self r) }
+    {
+        match self {
+            Side::Left => Kind::OnlyLeft,
+            Side::Right => Kind::OnlyRight,
+        }
     }
-    put_text(out, at, b" only right:")
+
+    // The words of its line.
+    fn words(self) -> &'static [u8]
+        ensures { (result.now ≡ side_text self) × (length result.now ≤ 12) }
+    {
+        match self {
+            Side::Left => b" only left:",
+            Side::Right => b" only right:",
+        }
+    }
 }
 
 // The line of a record that only one log has.
-fn put_only(out: &mut [u8], at: usize, number: u64, left: bool, e: Entry) -> usize
+fn put_only(out: &mut [u8], at: usize, number: u64, side: Side, e: Entry) -> usize
     requires { at + 47 ≤ length out.old }
-    ensures { Put out.old at (decimal number ++ (side_text left ++ entry_text e)) out.new result × (result ≤ at + 47) }
+    ensures { Put out.old at (decimal number ++ (side_text side ++ entry_text e)) out.new result × (result ≤ at + 47) }
 {
     let words = put_number(out, at, number);
-    let entry = put_side(out, words, left);
+    let entry = put_text(out, words, side.words());
     put_entry(out, entry, e)
 }
 
 // The lines of records that only one log has, so many from the start of a piece, after what was told before.
-fn tell_only(out: &mut [u8], told: Compared, left: bool, piece: &[u8], count: usize) -> Compared
+fn tell_only(out: &mut [u8], told: Compared, side: Side, piece: &[u8], count: usize) -> Compared
     requires { (count * record_size ≤ length piece.now) × (told.length + count * position_limit ≤ length out.old) }
-    ensures { SoFar next_lines next_kinds (map (only_on left) (records_in count piece.now)) told.kinds out.old told.length result.kinds out.new result.length
+    ensures { SoFar next_lines next_kinds (map (only_on side) (records_in count piece.now)) told.kinds out.old told.length result.kinds out.new result.length
         × (result.length ≤ told.length + count * position_limit) }
 {
-    let kind = only_kind(left);
+    let kind = side.kind();
     let mut kinds = told.kinds;
     let mut length = told.length;
-    let mut i = 0;
-    while i < count {
+    for i in 0..count {
         let at = i * RECORD_SIZE;
         let e = entry_of(&piece[at..at + RECORD_SIZE]);
-        length = put_only(out, length, kinds.positions, left, e);
-        kinds = counted(kinds, kind);
-        i += 1;
+        length = put_only(out, length, kinds.positions, side, e);
+        kinds = kinds.counted(kind);
     }
     Compared { kinds, length }
 }
@@ -107,13 +115,13 @@ pub fn compare(left: &[u8], right: &[u8], before: Kinds, out: &mut [u8]) -> Comp
     ensures { Compares left.now right.now before out.old result out.new }
 {
     let room = out.len() / POSITION_LIMIT;
-    let a = least(left.len() / RECORD_SIZE, room);
-    let b = least(right.len() / RECORD_SIZE, room);
-    let pairs = least(a, b);
+    let a = (left.len() / RECORD_SIZE).min(room);
+    let b = (right.len() / RECORD_SIZE).min(room);
+    let pairs = a.min(b);
     let from = pairs * RECORD_SIZE;
     let paired = tell_pairs(out, before, left, right, pairs);
-    let told = tell_only(out, paired, true, &left[from..], a - pairs);
-    tell_only(out, told, false, &right[from..], b - pairs)
+    let told = tell_only(out, paired, Side::Left, &left[from..], a - pairs);
+    tell_only(out, told, Side::Right, &right[from..], b - pairs)
 }
 
 // What the last line says of the pairs.

@@ -1,6 +1,6 @@
 // Log records: their layout.
-ghost use Rattle.std.specs.Prelude.{◌≡◌, ◌+◌, ◌*◌};
-ghost use Rattle.bench_log.specs.LogRecord.{keeps_layout, taken_apart, parts_of};
+ghost use Rattle.std.specs.Prelude.{◌≡◌, ◌≤◌, length};
+ghost use Rattle.bench_log.specs.LogRecord.{length_in, keeps_layout, taken_apart, parts_of};
 
 use codec::MESSAGE_LIMIT;
 use codec::refusal::BROKEN_RECORD;
@@ -16,10 +16,12 @@ pub struct Parts {
     pub length: usize,
 }
 
-fn joined(low: u8, high: u8) -> usize
-    ensures { result ≡ low + 256 * high }
+// The length of the message, as the head gives it.
+fn length_in(octets: &[u8]) -> usize
+    requires { 4 ≤ length octets.now }
+    ensures { result ≡ length_in octets.now }
 {
-    low as usize + 256 * high as usize
+    usize::from(u16::from_le_bytes([octets[2], octets[3]]))
 }
 
 #[tactic(auto, using(crate::proofs::Entries::wrong_direction))]
@@ -38,7 +40,7 @@ fn keeps_layout(octets: &[u8], limit: usize) -> bool
     if octets[1] != 0 {
         return false;
     }
-    let length = joined(octets[2], octets[3]);
+    let length = length_in(octets);
     if limit < length {
         return false;
     }
@@ -59,6 +61,6 @@ pub fn take_apart(octets: &[u8], limit: usize) -> Parts
     Parts {
         refusal: 0,
         direction: octets[0],
-        length: joined(octets[2], octets[3]),
+        length: length_in(octets),
     }
 }

@@ -5,6 +5,7 @@ mod block;
 mod comparison;
 mod difference;
 mod entry;
+mod found;
 mod kinds;
 mod layout;
 mod listing;

@@ -1,5 +1,5 @@
 // The listing: lines of records and the last line, laid out in a lent buffer.
-ghost use Rattle.std.specs.Prelude.{◌≡◌, ◌+◌, ◌≤◌, min, ◌++◌, length};
+ghost use Rattle.std.specs.Prelude.{◌≡◌, ◌+◌, ◌≤◌, ◌++◌, length};
 ghost use Rattle.codec.specs.Inner.Puts.{Put};
 ghost use Rattle.codec.specs.Writing.{fitting, LaysOut};
 ghost use Rattle.bench_log.specs.Text.{decimal};
@@ -8,7 +8,7 @@ ghost use Rattle.bench_log.specs.Listing.{letter, verdict, entry_text, line, las
 use crate::entry::{Entry, entry_of};
 use crate::layout::RECORD_SIZE;
 use crate::text::{decimal_length, put, put_decimal, put_number, put_text};
-use crate::totals::{Totals, counted};
+use crate::totals::Totals;
 use codec::Written;
 use codec::refusal::BUFFER_TOO_SHORT;
 
@@ -48,10 +48,10 @@ fn put_verdict(out: &mut [u8], at: usize, e: Entry) -> usize
     ensures { Put out.old at (verdict e) out.new result }
 {
     if e.refusal == 0 {
-        let set = put_decimal(out, at, e.id as u64);
-        return put_field(out, set, b" ", e.set as u64);
+        let set = put_decimal(out, at, u64::from(e.id));
+        return put_field(out, set, b" ", u64::from(e.set));
     }
-    put_field(out, at, b"refused ", e.refusal as u64)
+    put_field(out, at, b"refused ", u64::from(e.refusal))
 }
 
 // What a line says after the number.
@@ -73,27 +73,19 @@ fn put_line(out: &mut [u8], at: usize, number: u64, e: Entry) -> usize
     put_entry(out, letter, e)
 }
 
-pub(crate) fn least(a: usize, b: usize) -> usize
-    ensures { result ≡ min a b }
-{
-    if a < b { a } else { b }
-}
-
 // Lists the whole records of a piece of a log that come after those counted before, as many as `out` has room for at the
 // longest line each: their lines stand at its start, and every other octet is as it was.
 pub fn list(piece: &[u8], before: Totals, out: &mut [u8]) -> Listed
     ensures { Lists piece.now before out.old result out.new }
 {
-    let count = least(piece.len() / RECORD_SIZE, out.len() / LINE_LIMIT);
+    let count = (piece.len() / RECORD_SIZE).min(out.len() / LINE_LIMIT);
     let mut totals = before;
     let mut length = 0;
-    let mut i = 0;
-    while i < count {
+    for i in 0..count {
         let at = i * RECORD_SIZE;
         let e = entry_of(&piece[at..at + RECORD_SIZE]);
         length = put_line(out, length, totals.records, e);
-        totals = counted(totals, e);
-        i += 1;
+        totals = totals.counted(e);
     }
     Listed { totals, length }
 }

@@ -6,8 +6,9 @@ ghost use Rattle.bench_log.specs.Text.{decimal};
 ghost use Rattle.bench_log.specs.Comparison.{shown, difference_lines, pair_lines, pair_kind, position_limit};
 ghost use Rattle.bench_log.specs.Inner.Pairs.{Sees, head_differences};
 
-use crate::difference::{put_numbers, wide};
-use crate::kinds::{DIFFERENT, SAME_OCTETS, SAME_READING};
+use crate::difference::Heading;
+use crate::found::Found;
+use crate::kinds::Kind;
 use crate::layout::take_apart;
 use crate::messages::put_messages;
 use crate::same::same;
@@ -27,7 +28,7 @@ pub(crate) struct Seen {
 #[derive(Clone, Copy)]
 pub(crate) struct Said {
     pub end: usize,
-    pub kind: u8,
+    pub kind: Kind,
 }
 
 fn look_at(octets: &[u8]) -> Seen
@@ -54,64 +55,46 @@ fn look_at(octets: &[u8]) -> Seen
 }
 
 // The lines of the directions and the refusal numbers.
-fn put_heads(
-    out: &mut [u8],
-    at: usize,
-    number: u64,
-    left: u8,
-    right: u8,
-    refusal: u8,
-    other: u8,
-) -> usize
+fn put_heads(out: &mut [u8], at: usize, number: u64, left: &Seen, right: &Seen) -> usize
     requires { at + 177 ≤ length out.old }
-    ensures { Put out.old at (difference_lines number (head_differences left right refusal other)) out.new result × (result ≤ at + 177) }
+    ensures { Put out.old at (difference_lines number (head_differences left.now.direction right.now.direction left.now.refusal right.now.refusal)) out.new result
+        × (result ≤ at + 177) }
 {
-    let next = put_numbers(out, at, number, b"", b"direction", wide(left), wide(right));
-    put_numbers(
+    let heading = Heading::of_record(number);
+    let next = heading.put_numbers(
+        out,
+        at,
+        b"direction",
+        u64::from(left.direction),
+        u64::from(right.direction),
+    );
+    heading.put_numbers(
         out,
         next,
-        number,
-        b"",
         b"refusal number",
-        wide(refusal),
-        wide(other),
+        u64::from(left.refusal),
+        u64::from(right.refusal),
     )
 }
 
 // The lines of the fields that both have and that differ.
 fn put_differences(out: &mut [u8], at: usize, number: u64, left: &[u8], right: &[u8]) -> usize
-    requires { at + 2480 ≤ length out.old }
+    requires { at + 2481 ≤ length out.old }
     ensures { (Octets left.now × Octets right.now)
-        × (Put out.old at (difference_lines number (shown left.now right.now)) out.new result × (result ≤ at + 2480)) }
+        × (Put out.old at (difference_lines number (shown left.now right.now)) out.new result × (result ≤ at + 2481)) }
 {
     let l = look_at(left);
     let r = look_at(right);
-    let next = put_heads(
-        out,
-        at,
-        number,
-        l.direction,
-        r.direction,
-        l.refusal,
-        r.refusal,
-    );
+    let next = put_heads(out, at, number, &l, &r);
     if l.refusal != 0 {
         return next;
     }
     if r.refusal != 0 {
         return next;
     }
-    let x = l.end;
-    let y = r.end;
-    put_messages(
-        out,
-        next,
-        number,
-        &left[4..x],
-        &l.places,
-        &right[4..y],
-        &r.places,
-    )
+    let x = Found::new(&left[4..l.end], &l.places);
+    let y = Found::new(&right[4..r.end], &r.places);
+    put_messages(out, next, number, &x, &y)
 }
 
 // A record's number, and words.
@@ -133,7 +116,7 @@ pub(crate) fn put_pair(out: &mut [u8], at: usize, number: u64, left: &[u8], righ
         let end = put_words(out, at, number, b" same octets\n");
         return Said {
             end,
-            kind: SAME_OCTETS,
+            kind: Kind::SameOctets,
         };
     }
     let next = put_differences(out, at, number, left, right);
@@ -141,11 +124,11 @@ pub(crate) fn put_pair(out: &mut [u8], at: usize, number: u64, left: &[u8], righ
         let end = put_words(out, at, number, b" same reading\n");
         return Said {
             end,
-            kind: SAME_READING,
+            kind: Kind::SameReading,
         };
     }
     Said {
         end: next,
-        kind: DIFFERENT,
+        kind: Kind::Different,
     }
 }

@@ -10,10 +10,8 @@ pub(crate) fn same(a: &[u8], b: &[u8]) -> bool
         return false;
     }
     let mut all = true;
-    let mut i = 0;
-    while i < a.len() {
-        all = all & (a[i] == b[i]);
-        i += 1;
+    for i in 0..a.len() {
+        all &= a[i] == b[i];
     }
     all
 }

@@ -62,10 +62,8 @@ pub(crate) fn put_hexadecimal(out: &mut [u8], at: usize, octets: &[u8]) -> usize
     ensures { Put out.old at (hexadecimal octets.now) out.new result × (result ≡ at + 2 * length octets.now) }
 {
     let mut next = at;
-    let mut i = 0;
-    while i < octets.len() {
-        next = put_octet(out, next, octets[i]);
-        i += 1;
+    for octet in octets {
+        next = put_octet(out, next, *octet);
     }
     next
 }

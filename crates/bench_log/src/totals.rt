@@ -1,6 +1,5 @@
 // Totals: how many records were counted, and how many of them accepted and refused.
 ghost use Rattle.std.specs.Prelude.{◌≡◌};
-ghost use Rattle.bench_log.specs.Items.{one_more};
 ghost use Rattle.bench_log.specs.Totals.{counted};
 
 use crate::entry::Entry;
@@ -13,26 +12,25 @@ pub struct Totals {
     pub refused: u64,
 }
 
-pub(crate) fn one_more(n: u64) -> u64
-    ensures { result ≡ one_more n }
-{
-    std::num::wrapping_add_u64(n, 1)
-}
-
-// The totals with one record more.
-pub(crate) fn counted(totals: Totals, e: Entry) -> Totals
-    ensures { result ≡ counted totals e }
-{
-    if e.refusal == 0 {
-        return Totals {
-            records: one_more(totals.records),
-            accepted: one_more(totals.accepted),
-            refused: totals.refused,
+impl Totals {
+    // The totals with one record more.
+    #[tactic(auto, unfolding(crate::specs::Totals::counted))]
+    pub(crate) fn counted(self, e: Entry) -> Totals
+        ensures { result ≡ counted self e }
+    {
+        let all = Totals {
+            records: self.records.wrapping_add(1),
+            ..self
         };
-    }
-    Totals {
-        records: one_more(totals.records),
-        accepted: totals.accepted,
-        refused: one_more(totals.refused),
+        if e.refusal == 0 {
+            return Totals {
+                accepted: self.accepted.wrapping_add(1),
+                ..all
+            };
+        }
+        Totals {
+            refused: self.refused.wrapping_add(1),
+            ..all
+        }
     }
 }

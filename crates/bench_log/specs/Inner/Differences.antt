@@ -1,5 +1,5 @@
 -- What differs in two accepted messages with the same ID, and what the code that lays it out needs.
-use Rattle.std.specs.Prelude.{◌≡◌, ℕ, ◌+◌, ◌≤◌, Bool, true, false, cond, ◌&&◌, List, [], ◌∷◌, ◌++◌, map, length, take, drop, ◌==◌, slice_index}
+use Rattle.std.specs.Prelude.{◌≡◌, ℕ, ◌+◌, ◌*◌, ◌≤◌, true, cond, ◌&&◌, List, [], ◌∷◌, ◌++◌, map, length, take, drop, ◌==◌, slice_index}
 use mathlib.Core.List.{flatten}
 use Rattle.std.proofs.Math.Option.{Option, none, some}
 use Rattle.codec.specs.Octets.{Octets}
@@ -13,7 +13,8 @@ use Rattle.codec.specs.declared.records.Record.{Record}
 use Rattle.bench_log.specs.Text.{ascii}
 use Rattle.bench_log.specs.Fields.{amount, string, prefix, message_id_name, presence}
 use Rattle.bench_log.specs.Comparison.{Difference, difference}
-use Rattle.bench_log.specs.Inner.Coded.{items_of, lines_limit}
+use Rattle.bench_log.specs.declared.block.Column.{Column as CodeColumn}
+use Rattle.bench_log.specs.declared.block.Column.TheVariants.{Capabilities, Configurations}
 
 -- the fields of two blocks that differ
 abbrev pub block_differences : List ℕ → (L : Layout) → Values L → Values L → List Difference
@@ -44,9 +45,9 @@ module _ (a b : Record) where
 
 -- ---- as the code takes it
 
-abbrev pub column_by : (configuration : Bool) → Column
-column_by true = configurations
-column_by false = capabilities
+abbrev pub column_by : CodeColumn → Column
+column_by Capabilities = capabilities
+column_by Configurations = configurations
 
 unfoldable pub technology_by : (id : ℕ) → Technology
 technology_by id = cond (id == 0) uwb (cond (id == 1) cs (cond (id == 2) nan rssi))
@@ -55,8 +56,14 @@ technology_by id = cond (id == 0) uwb (cond (id == 1) cs (cond (id == 2) nan rss
 unfoldable pub block_at : Column → Technology → List ℕ → List ℕ → List Difference
 block_at k t l r = block_differences (prefix t) (cell k t) (value (cell k t) 2 l) (value (cell k t) 2 r)
 
+unfoldable pub lines_limit : Layout → ℕ
+lines_limit [] = 0
+lines_limit (number x w t ∷ L) = 82 + length (ascii x) + lines_limit L
+lines_limit (octets x n t ∷ L) = 42 + 4 * n + length (ascii x) + lines_limit L
+lines_limit (counted x y t c ∷ L) = 82 + length (ascii x) + (42 + 4 * c + length (ascii y)) + lines_limit L
+
 unfoldable pub section_limit : Column → Technology → ℕ
-section_limit k t = lines_limit (items_of (cell k t))
+section_limit k t = lines_limit (cell k t)
 
 pub record BlockReady (k : Column) (t : Technology) (l r : List ℕ) (at : ℕ) (d : List ℕ) : Type 0 where
   pub left : Roomy (cell k t) 2 l
@@ -88,7 +95,7 @@ read_differences a b = cond (a.id == b.id) (message_differences a b (row a.id).c
 
 -- their lines take at most so many octets
 abbrev pub messages_limit : ℕ
-messages_limit = 2300
+messages_limit = 2304
 
 pub record MessagesReady (l places r others : List ℕ) (at : ℕ) (d : List ℕ) : Type 0 where
   pub left : Located l 0 places

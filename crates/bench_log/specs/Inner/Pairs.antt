@@ -1,5 +1,5 @@
 -- What is seen of a log record, and what differs in the heads of two.
-use Rattle.std.specs.Prelude.{◌≡◌, ℕ, ◌-◌, ◌≤◌, Bool, true, false, List, ◌++◌, length}
+use Rattle.std.specs.Prelude.{◌≡◌, ℕ, ◌-◌, ◌≤◌, List, ◌++◌, length}
 use Rattle.codec.specs.Octets.{part}
 use Rattle.codec.specs.Records.{answer}
 use Rattle.codec.specs.Message.{reading}
@@ -8,6 +8,8 @@ use Rattle.bench_log.specs.LogRecord.{reading_of, direction_of}
 use Rattle.bench_log.specs.Text.{ascii}
 use Rattle.bench_log.specs.Fields.{amount, direction_name, refusal_name}
 use Rattle.bench_log.specs.Comparison.{Difference, difference, Position, only_left, only_right}
+use Rattle.bench_log.specs.declared.comparison.Side.{Side}
+use Rattle.bench_log.specs.declared.comparison.Side.TheVariants.{Left, Right}
 use Rattle.bench_log.specs.declared.pair.Seen.{Seen}
 
 abbrev pub direction_difference : (left right : ℕ) → List Difference
@@ -29,10 +31,10 @@ pub record Sees (r : List ℕ) (s : Seen) : Type 0 where
   pub holds : s.refusal ≡ 0 → Holds r s.end s.places
 
 -- a record that only one log has, with the words after its number
-abbrev pub only_on : (left : Bool) → List ℕ → Position
-only_on true = only_left
-only_on false = only_right
+abbrev pub only_on : Side → List ℕ → Position
+only_on Left = only_left
+only_on Right = only_right
 
-abbrev pub side_text : (left : Bool) → List ℕ
-side_text true = ascii " only left:"
-side_text false = ascii " only right:"
+abbrev pub side_text : Side → List ℕ
+side_text Left = ascii " only left:"
+side_text Right = ascii " only right:"

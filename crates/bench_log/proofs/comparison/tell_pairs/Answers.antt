@@ -4,15 +4,14 @@ use Rattle.std.proofs.Common.{◌≡◌, arith}
 use Rattle.bench_log.proofs.comparison.tell_pairs.Goals as goal
 
 pub loop-i-init : goal.loop-i-init
-loop-i-init c = (omega arith, omega arith, none_told _ _ _ _ _ (omega arith))
+loop-i-init c = (omega arith, none_told _ _ _ _ _ (omega arith))
 
 pub loop-i-preserved : goal.loop-i-preserved
 loop-i-preserved c = (
-  omega arith,
   omega (arith, c.put_pair-said.ensures.1),
-  one_compared c.args.left.now c.args.right.now c.loop-i.i c.loop-i.invariant.2 c.put_pair-said.ensures.0 c.put_pair-said.ensures.2 c.counted-kinds.ensures,
+  one_compared c.args.left.now c.args.right.now c.loop-i.i c.loop-i.invariant.1 c.put_pair-said.ensures.0 c.put_pair-said.ensures.2 c.counted-kinds.ensures,
 )
 
 pub returns : goal.returns
 returns c = let e : c.loop-i.i ≡ c.args.count = omega arith in
-    (rw e at c.loop-i.invariant.2, rw e at c.loop-i.invariant.1)
+    (rw e at c.loop-i.invariant.1, rw e at c.loop-i.invariant.0)

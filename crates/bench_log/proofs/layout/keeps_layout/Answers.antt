@@ -14,11 +14,11 @@ pub returns-then-octets-ne0 : goal.returns-then-octets-ne0
 returns-then-octets-ne0 c = wrong_zero _ _ (omega arith) (omega arith) c.if-octets-ne0.true
 
 pub returns-then-limit-length : goal.returns-then-limit-length
-returns-then-limit-length c = wrong_length _ _ (omega arith) (omega arith) c.if-octets-ne0.false (omega (arith, c.joined-length.ensures, c.if-limit-length.true))
+returns-then-limit-length c = wrong_length _ _ (omega arith) (omega arith) c.if-octets-ne0.false (omega (arith, c.length_in-length.ensures, c.if-limit-length.true))
 
 pub returns : goal.returns
 returns c = let s = c.args.octets.now in
-    let j = c.joined-length.result in
-    let e : length_in s ≡ j = sym c.joined-length.ensures in
+    let j = c.length_in-length.result in
+    let e : length_in s ≡ j = sym c.length_in-length.ensures in
     c.all_zero.ensures ∙ ap all_zero (take_all (length s - (4 + j)) (drop (4 + j) s) (simp length-drop (omega arith)) ∙ rw e)
     ∙ zeros_past _ s (omega arith) (omega arith) c.if-octets-ne0.false (omega (arith, e, c.if-limit-length.false))

@@ -8,11 +8,8 @@ returns-then-not-keeps_layout c = parts_broken _ _ (sym c.keeps_layout.ensures �
 pub bounds-octets-0 : goal.bounds-octets-0
 bounds-octets-0 c = omega (arith, (kept _ _ (sym c.keeps_layout.ensures ∙ c.if-not-keeps_layout.false)).0)
 
-pub bounds-octets-2 : goal.bounds-octets-2
-bounds-octets-2 c = omega (arith, (kept _ _ (sym c.keeps_layout.ensures ∙ c.if-not-keeps_layout.false)).0)
-
-pub bounds-octets-3 : goal.bounds-octets-3
-bounds-octets-3 c = omega (arith, (kept _ _ (sym c.keeps_layout.ensures ∙ c.if-not-keeps_layout.false)).0)
+pub length_in-requires : goal.length_in-requires
+length_in-requires c = omega (arith, (kept _ _ (sym c.keeps_layout.ensures ∙ c.if-not-keeps_layout.false)).0)
 
 pub returns : goal.returns
-returns c = rw c.joined.ensures (parts_kept _ _ (sym c.keeps_layout.ensures ∙ c.if-not-keeps_layout.false))
+returns c = rw c.length_in.ensures (parts_kept _ _ (sym c.keeps_layout.ensures ∙ c.if-not-keeps_layout.false))

@@ -1,34 +1,37 @@
 use Rattle.codec.specs.Blocks.{capabilities, configurations}
 use Rattle.bench_log.proofs.MessagePairs.{put_ids, sections_ready, put_sectioned, put_plain}
-use Rattle.std.proofs.Common.{refl, arith}
+use Rattle.std.proofs.Common.{sym, ◌∙◌, arith}
 use Rattle.bench_log.proofs.messages.put_messages.Goals as goal
 
-pub bounds-left-1 : goal.bounds-left-1
-bounds-left-1 c = omega (arith, c.requires.left.four refl)
-
-pub bounds-right-1 : goal.bounds-right-1
-bounds-right-1 c = omega (arith, c.requires.right.four refl)
-
 pub returns-then-id-other : goal.returns-then-id-other
-returns-then-id-other c = put_ids _ c.args.left.now c.args.a.now c.args.right.now c.args.b.now (λ e. omega (arith, e)) c.wide.ensures c.wide-then-id-other.ensures c.put_numbers.ensures
-
-pub set_in-s-requires : goal.set_in-s-requires
-set_in-s-requires c = c.requires.left.four refl
-
-pub set_in-u-requires : goal.set_in-u-requires
-set_in-u-requires c = c.requires.right.four refl
+returns-then-id-other c =
+    let l = c.args.left.now in
+    let r = c.args.right.now in
+    let p = rw (c.of_record-heading.ensures.0, c.of_record-heading.ensures.1) at c.put_numbers.ensures in
+    put_ids _ l.message.now l.places.now r.message.now r.places.now (λ e. c.if-id-other.true (c.id-id.ensures ∙ e ∙ sym c.id-other.ensures)) (c.from.ensures ∙ c.id-id.ensures)
+    (c.from-then-id-other.ensures ∙ c.id-other.ensures) (p.text, p.limit)
 
 pub put_sections-requires : goal.put_sections-requires
-put_sections-requires c = rw (c.set_in-s.ensures, c.set_in-u.ensures) (sections_ready c.requires c.if-id-other.false capabilities c.if-id-eq-CAPABILITY_RESPONSE.true (omega (arith, c.requires.room, c.put_presences-next.ensures.1, c.put_presences-next.ensures.0.same)))
+put_sections-requires c =
+    let same = sym c.id-id.ensures ∙ c.if-id-other.false ∙ c.id-other.ensures in
+    rw (c.args.left.now.without_reserved, c.args.right.now.without_reserved) (sections_ready c.requires same capabilities (sym c.id-id.ensures ∙ c.in-1.is) (omega (arith, c.requires.room, c.put_presences-next.ensures.1, c.put_presences-next.ensures.0.same)))
 
-pub returns-then-id-eq-CAPABILITY_RESPONSE : goal.returns-then-id-eq-CAPABILITY_RESPONSE
-returns-then-id-eq-CAPABILITY_RESPONSE c = put_sectioned c.requires c.if-id-other.false _ capabilities c.if-id-eq-CAPABILITY_RESPONSE.true c.set_in-s.ensures c.set_in-u.ensures c.put_presences-next.ensures c.put_sections.ensures
+pub returns-in-1 : goal.returns-in-1
+returns-in-1 c =
+    let same = sym c.id-id.ensures ∙ c.if-id-other.false ∙ c.id-other.ensures in
+    put_sectioned c.requires same _ capabilities (sym c.id-id.ensures ∙ c.in-1.is) c.args.left.now.without_reserved c.args.right.now.without_reserved c.put_presences-next.ensures c.put_sections.ensures
 
-pub put_sections-requires-then-id-eq-CONFIGURATION : goal.put_sections-requires-then-id-eq-CONFIGURATION
-put_sections-requires-then-id-eq-CONFIGURATION c = rw (c.set_in-s.ensures, c.set_in-u.ensures) (sections_ready c.requires c.if-id-other.false configurations c.if-id-eq-CONFIGURATION.true (omega (arith, c.requires.room, c.put_presences-next.ensures.1, c.put_presences-next.ensures.0.same)))
+pub put_sections-requires-in-2 : goal.put_sections-requires-in-2
+put_sections-requires-in-2 c =
+    let same = sym c.id-id.ensures ∙ c.if-id-other.false ∙ c.id-other.ensures in
+    rw (c.args.left.now.without_reserved, c.args.right.now.without_reserved) (sections_ready c.requires same configurations (sym c.id-id.ensures ∙ c.in-2.is) (omega (arith, c.requires.room, c.put_presences-next.ensures.1, c.put_presences-next.ensures.0.same)))
 
-pub returns-then-id-eq-CONFIGURATION : goal.returns-then-id-eq-CONFIGURATION
-returns-then-id-eq-CONFIGURATION c = put_sectioned c.requires c.if-id-other.false _ configurations c.if-id-eq-CONFIGURATION.true c.set_in-s.ensures c.set_in-u.ensures c.put_presences-next.ensures c.put_sections-then-id-eq-CONFIGURATION.ensures
+pub returns-in-2 : goal.returns-in-2
+returns-in-2 c =
+    let same = sym c.id-id.ensures ∙ c.if-id-other.false ∙ c.id-other.ensures in
+    put_sectioned c.requires same _ configurations (sym c.id-id.ensures ∙ c.in-2.is) c.args.left.now.without_reserved c.args.right.now.without_reserved c.put_presences-next.ensures c.put_sections-in-2.ensures
 
-pub returns : goal.returns
-returns c = put_plain c.requires c.if-id-other.false _ c.if-id-eq-CAPABILITY_RESPONSE.false c.if-id-eq-CONFIGURATION.false c.set_in-s.ensures c.set_in-u.ensures c.put_presences-next.ensures
+pub returns-in_default : goal.returns-in_default
+returns-in_default c =
+    let same = sym c.id-id.ensures ∙ c.if-id-other.false ∙ c.id-other.ensures in
+    put_plain c.requires same _ (λ e. omega (arith, c.id-id.ensures, e)) (λ e. omega (arith, c.id-id.ensures, e)) c.args.left.now.without_reserved c.args.right.now.without_reserved c.put_presences-next.ensures

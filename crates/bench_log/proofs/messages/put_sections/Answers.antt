@@ -1,6 +1,6 @@
 use Rattle.bench_log.specs.Inner.Differences.{column_by, section_in}
 use Rattle.bench_log.proofs.Differences.{put_four}
-use Rattle.bench_log.proofs.Coded.{by_zero, by_one, by_two, by_three, section_of}
+use Rattle.bench_log.proofs.BlockPairs.{by_zero, by_one, by_two, by_three, section_of}
 use Rattle.std.proofs.Common.{arith}
 use Rattle.bench_log.proofs.messages.put_sections.Goals as goal
 
@@ -22,4 +22,4 @@ returns c = let s = c.args in
     let q = rw by_one at c.put_section-q.ensures in
     let r = rw by_two at c.put_section-r.ensures in
     let o = rw by_three at c.put_section.ensures in
-    (put_four _ (section_in (column_by s.configuration) s.s s.u s.left.now s.a.now s.right.now s.b.now) p.0 q.0 r.0 o.0, omega (arith, p.1, q.1, r.1, o.1))
+    (put_four _ (section_in (column_by s.column) s.left.now.set s.right.now.set s.left.now.message.now s.left.now.places.now s.right.now.message.now s.right.now.places.now) p.0 q.0 r.0 o.0, omega (arith, p.1, q.1, r.1, o.1))

@@ -5,5 +5,8 @@ use Rattle.std.proofs.Common.{arith}
 use Rattle.bench_log.proofs.pair.put_heads.Goals as goal
 
 pub returns : goal.returns
-returns c = rw (← c.wide.ensures, ← c.wide-2.ensures, ← c.wide-3.ensures, ← c.wide-4.ensures)
-    (rw (lines_append _ (direction_difference _ _) _) (put_then c.put_numbers-next.ensures.0 c.put_numbers.ensures.0), omega (arith, c.put_numbers-next.ensures.1, c.put_numbers.ensures.1))
+returns c =
+    let e = c.of_record-heading.ensures in
+    let p = rw (e.0, e.1, c.from.ensures, c.from-2.ensures) at c.put_numbers-next.ensures in
+    let q = rw (e.0, e.1, c.from-3.ensures, c.from-4.ensures) at c.put_numbers.ensures in
+    (rw (lines_append c.args.number (direction_difference _ _) _) (put_then p.text q.text), omega (arith, p.limit, q.limit))

@@ -7,7 +7,7 @@ returns-then-a-b c = sym (not_same c.args.a.now c.args.b.now c.if-a-b.true)
 
 pub loop-i-preserved : goal.loop-i-preserved
 loop-i-preserved c = let l = c.loop-i in
-    (omega arith, l.invariant.1, rw (add-one, same_next l.i c.args.a.now c.args.b.now (omega arith) (omega arith), l.invariant.2))
+    (l.invariant.0, rw (add-one, same_next l.i c.args.a.now c.args.b.now (omega arith) (omega arith), l.invariant.1))
 
 pub returns : goal.returns
-returns c = c.loop-i.invariant.2 ∙ rw (take_all c.loop-i.i c.args.a.now (omega arith), take_all c.loop-i.i c.args.b.now (omega arith))
+returns c = c.loop-i.invariant.1 ∙ rw (take_all c.loop-i.i c.args.a.now (omega arith), take_all c.loop-i.i c.args.b.now (omega arith))

@@ -3,11 +3,11 @@ use Rattle.codec.proofs.Puts.{put_none}
 use Rattle.bench_log.proofs.Differences.{put_next_octet}
 use Rattle.bench_log.proofs.text.put_hexadecimal.Goals as goal
 
-pub loop-i-init : goal.loop-i-init
-loop-i-init c = (omega arith, omega arith, put_none _ _ (omega arith))
+pub loop-octet-init : goal.loop-octet-init
+loop-octet-init c = (omega arith, put_none _ _ (omega arith))
 
-pub loop-i-preserved : goal.loop-i-preserved
-loop-i-preserved c = (omega arith, omega arith, put_next_octet c.loop-i.i c.args.octets.now (omega arith) c.loop-i.invariant.2 c.put_octet-next.ensures)
+pub loop-octet-preserved : goal.loop-octet-preserved
+loop-octet-preserved c = (omega arith, put_next_octet c.loop-octet.octet-index c.args.octets.now (omega arith) c.loop-octet.invariant.1 c.put_octet-next.ensures)
 
 pub returns : goal.returns
-returns c = (rw (← take_all c.loop-i.i c.args.octets.now (omega arith)) c.loop-i.invariant.2, omega arith)
+returns c = (rw (← take_all c.loop-octet.octet-index c.args.octets.now (omega arith)) c.loop-octet.invariant.1, omega arith)
