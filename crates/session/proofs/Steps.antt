@@ -28,7 +28,7 @@ use Rattle.codec.proofs.ValidCases.{response_valid, used_fields, only_valid, set
 use Rattle.session.specs.declared.state.Profile.{Profile}
 use Rattle.session.specs.declared.state.Session.{Session}
 use Rattle.session.specs.declared.state.Answer.{Answer}
-use Rattle.codec.specs.Technology.{technologies, set_limit, Technology, technology_id, uwb, nan, rssi, names, naming, bit, of_bits, in_both}
+use Rattle.codec.specs.Technology.{technologies, set_limit, Technology, technology_id, uwb, names, naming, bit, of_bits, in_both}
 use Rattle.session.specs.Within.{within_profile}
 use Rattle.session.specs.Rules.{valid_profile, eligible, message, advertisement, Call, Kind, request, configuration, stop, kind_of, octets_of, replied, shows, capability_reply, Served, conclude, give_out, configure, set_by, ended_by, halt, serve, respond, call, after, answer_to}
 use Rattle.session.specs.Session.{yes, with_marks, on_session, session_call, Gives, as_profile, profile_of}
@@ -127,10 +127,11 @@ alone t on u = cond (eqb (technology_id t) (technology_id u)) on false
 abbrev pub follow : Configuration → Answer → Session → Session
 follow c a s = on_session.stop (names a.stopped) (on_session.put (names a.set) c s)
 
-pub follow_none : (c : Configuration) (w : Written) (s : Session) → follow c (settle w 0 0) s ≡ s
-follow_none c w s = by_bool (eqb w.refusal 0) (λ t. rw t) (λ t. rw t)
-
 module _ (s : Session) (set : ℕ) (b : List ℕ) where
+  pub follow_given : (c : Configuration) (e : Session) → follow c (answer_to (conclude b (give_out on_session s.profile (names set) s))) e ≡ e
+  unfolding conclude
+  follow_given c e = by_bool (leb (length (normal (capability_reply s.profile (names set)))) (length b)) (λ t. rw t) (λ t. rw t)
+
   pub follow_configure : (c : Configuration) → let o = conclude b (configure on_session s.profile set c s) in follow c (answer_to o) s ≡ after s o
   unfolding conclude
   follow_configure c = let f = set_by on_session s.profile set c s in

@@ -4,6 +4,7 @@
 mod calls;
 mod configuration;
 mod replies;
+mod settings;
 mod state;
 mod stop;
 mod within;

@@ -7,8 +7,8 @@ use crate::state::{Answer, Profile};
 use codec::{SetMessage, Written, set_if};
 
 #[tactic(auto, unfolding(crate::specs::Rules::valid_profile))]
-pub(crate) fn valid_profile(p: Profile) -> bool
-    ensures { result ≡ valid_profile p }
+pub(crate) fn valid_profile(p: &Profile) -> bool
+    ensures { result ≡ valid_profile p.now }
 {
     let capability = p.capability;
     codec::valid_response(p.set, capability) & (p.replies < 3)

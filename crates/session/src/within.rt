@@ -41,8 +41,8 @@ fn has_role(roles: u8, role: u8) -> bool
     ((role == 1) & codec::has(bits, 0)) | ((role == 2) & codec::has(bits, 1))
 }
 
-pub(crate) fn within_uwb(k: UwbCapability, x: UwbConfiguration) -> bool
-    ensures { result ≡ within_profile uwb k x }
+pub(crate) fn within_uwb(k: &UwbCapability, x: &UwbConfiguration) -> bool
+    ensures { result ≡ within_profile uwb k.now x.now }
 {
     if !has_config_id(k.config_ids, x.config_id) {
         return false;
@@ -56,14 +56,14 @@ pub(crate) fn within_uwb(k: UwbCapability, x: UwbConfiguration) -> bool
     (k.shortest_interval <= x.interval) & ((k.shortest_slot <= x.slot) & has_role(k.roles, x.role))
 }
 
-pub(crate) fn within_cs(k: CsCapability, x: CsConfiguration) -> bool
-    ensures { result ≡ within_profile cs k x }
+pub(crate) fn within_cs(k: &CsCapability, x: &CsConfiguration) -> bool
+    ensures { result ≡ within_profile cs k.now x.now }
 {
     codec::has(k.security_types as u16, x.security_level)
 }
 
-pub(crate) fn within_nan(k: NanCapability, x: NanConfiguration) -> bool
-    ensures { result ≡ within_profile nan k x }
+pub(crate) fn within_nan(k: &NanCapability, x: &NanConfiguration) -> bool
+    ensures { result ≡ within_profile nan k.now x.now }
 {
     (x.periodic != 1) | (k.periodic == 1)
 }
