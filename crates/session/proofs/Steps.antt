@@ -128,10 +128,6 @@ abbrev pub follow : Configuration → Answer → Session → Session
 follow c a s = on_session.stop (names a.stopped) (on_session.put (names a.set) c s)
 
 module _ (s : Session) (set : ℕ) (b : List ℕ) where
-  pub follow_given : (c : Configuration) (e : Session) → follow c (answer_to (conclude b (give_out on_session s.profile (names set) s))) e ≡ e
-  unfolding conclude
-  follow_given c e = by_bool (leb (length (normal (capability_reply s.profile (names set)))) (length b)) (λ t. rw t) (λ t. rw t)
-
   pub follow_configure : (c : Configuration) → let o = conclude b (configure on_session s.profile set c s) in follow c (answer_to o) s ≡ after s o
   unfolding conclude
   follow_configure c = let f = set_by on_session s.profile set c s in

@@ -75,21 +75,29 @@ fn give_out(s: &mut Session, wanted: u16, out: &mut [u8]) -> Answer
     answered(w, 0, 0)
 }
 
-// A message to the tag. What the answer names is set or stopped where it lies.
+// What a session answers to a message. What a Configuration sets or a Stop ends is set or stopped where it lies.
+fn respond(s: &mut Session, octets: &[u8], out: &mut [u8]) -> Answer
+    ensures { Does s.old (record { said = Said.message octets.now; lent = out.old }) result s.new out.new }
+{
+    let heard = hear(&s.profile, octets);
+    if heard.refusal != 0 {
+        return refusal(heard.refusal);
+    }
+    let answer = match heard.id {
+        CAPABILITY_REQUEST => return give_out(s, heard.set, out),
+        CONFIGURATION => configure(s, &heard, octets, out),
+        STOP => halt(s, heard.set, out),
+        _ => return refusal(NOT_FOR_TAG),
+    };
+    s.follow(&answer, octets, &heard);
+    answer
+}
+
+// A message to the tag.
 pub fn message(mut s: Session, octets: &[u8], out: &mut [u8]) -> Step
     ensures { Does s (record { said = Said.message octets.now; lent = out.old }) result.answer result.session out.new }
 {
-    let heard = hear(&s.profile, octets);
-    let mut answer = refusal(heard.refusal);
-    if heard.refusal == 0 {
-        answer = match heard.id {
-            CAPABILITY_REQUEST => give_out(&mut s, heard.set, out),
-            CONFIGURATION => configure(&s, &heard, octets, out),
-            STOP => halt(&s, heard.set, out),
-            _ => refusal(NOT_FOR_TAG),
-        };
-    }
-    s.follow(&answer, octets, &heard);
+    let answer = respond(&mut s, octets, out);
     Step { session: s, answer }
 }
 
