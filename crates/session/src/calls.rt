@@ -75,7 +75,7 @@ fn give_out(s: &mut Session, wanted: u16, out: &mut [u8]) -> Answer
     answered(w, 0, 0)
 }
 
-// What a session answers to a message. What a Configuration sets or a Stop ends is set or stopped where it lies.
+// What a session answers to a message.
 fn respond(s: &mut Session, octets: &[u8], out: &mut [u8]) -> Answer
     ensures { Does s.old (record { said = Said.message octets.now; lent = out.old }) result s.new out.new }
 {
@@ -83,14 +83,12 @@ fn respond(s: &mut Session, octets: &[u8], out: &mut [u8]) -> Answer
     if heard.refusal != 0 {
         return refusal(heard.refusal);
     }
-    let answer = match heard.id {
-        CAPABILITY_REQUEST => return give_out(s, heard.set, out),
+    match heard.id {
+        CAPABILITY_REQUEST => give_out(s, heard.set, out),
         CONFIGURATION => configure(s, &heard, octets, out),
         STOP => halt(s, heard.set, out),
-        _ => return refusal(NOT_FOR_TAG),
-    };
-    s.follow(&answer, octets, &heard);
-    answer
+        _ => refusal(NOT_FOR_TAG),
+    }
 }
 
 // A message to the tag.

@@ -3,8 +3,7 @@ ghost use Rattle.std.specs.Prelude.{◌≡◌, ◌&&◌, not};
 ghost use Rattle.codec.specs.Technology.{bit};
 ghost use Rattle.codec.specs.Inner.Places.{settings_at};
 ghost use Rattle.session.specs.Rules.{conclude, configure};
-ghost use Rattle.session.specs.Session.{on_session};
-ghost use Rattle.session.specs.Inner.Replies.{Answers};
+ghost use Rattle.session.specs.Session.{on_session, Gives};
 
 use crate::replies::{answered, deliver};
 use crate::settings::Settings;
@@ -25,9 +24,9 @@ fn eligible<T: Settings>(profile: &Profile, heard: &Heard, octets: &[u8], barred
     T::at(octets, heard).is_within(&profile.capability)
 }
 
-// What a Configuration sets, which is all that is eligible, and message 3 with replies on.
-pub(crate) fn configure(s: &Session, heard: &Heard, octets: &[u8], out: &mut [u8]) -> Answer
-    ensures { Answers (conclude out.old (configure on_session s.now.profile heard.now.set (settings_at heard.now octets.now) s.now)) out.old result out.new }
+// Sets what a Configuration sets, which is all that is eligible, and writes message 3 with replies on.
+pub(crate) fn configure(s: &mut Session, heard: &Heard, octets: &[u8], out: &mut [u8]) -> Answer
+    ensures { Gives s.old (conclude out.old (configure on_session s.old.profile heard.now.set (settings_at heard.now octets.now) s.old)) out.old result s.new out.new }
 {
     let uwb = eligible::<UwbConfiguration>(&s.profile, heard, octets, s.mark != 0);
     let cs = eligible::<CsConfiguration>(&s.profile, heard, octets, false);
@@ -40,5 +39,7 @@ pub(crate) fn configure(s: &Session, heard: &Heard, octets: &[u8], out: &mut [u8
         those,
         out,
     );
-    answered(w, those, 0)
+    let answer = answered(w, those, 0);
+    s.put(answer.set, heard, octets);
+    answer
 }

@@ -98,14 +98,20 @@ pub(crate) trait State: Copy {
         Self::new(0, Self::Settings::zero())
     }
 
-    // Where an answer names the technology it is set, with settings straight from the message, or stopped where it lies.
-    fn follow(&mut self, answer: &Answer, octets: &[u8], heard: &Heard)
-        ensures { self.new ≡ cond (bit answer.now.stopped Self.Settings.ID) (state 0 (Self.Settings.settings_of (blank configurations))) (cond (bit answer.now.set Self.Settings.ID) (state 1 (Self.Settings.settings_of (settings_at heard.now octets.now))) self.old) }
+    // Where a set names the technology, it ranges with its settings from the message.
+    fn put(&mut self, set: u16, heard: &Heard, octets: &[u8])
+        ensures { self.new ≡ cond (bit set Self.Settings.ID) (state 1 (Self.Settings.settings_of (settings_at heard.now octets.now))) self.old }
     {
-        if has(answer.set, Self::Settings::ID) {
+        if has(set, Self::Settings::ID) {
             *self = Self::new(1, Self::Settings::at(octets, heard));
         }
-        if has(answer.stopped, Self::Settings::ID) {
+    }
+
+    // Where a set names the technology, it stops.
+    fn stop(&mut self, set: u16)
+        ensures { self.new ≡ cond (bit set Self.Settings.ID) (state 0 (Self.Settings.settings_of (blank configurations))) self.old }
+    {
+        if has(set, Self::Settings::ID) {
             *self = Self::idle();
         }
     }
@@ -175,14 +181,23 @@ pub(crate) fn fresh(profile: Profile) -> Session
 }
 
 impl Session {
-    // What an answer names is set or stopped, each technology by itself.
-    pub(crate) fn follow(&mut self, answer: &Answer, octets: &[u8], heard: &Heard)
-        ensures { self.new ≡ on_session.stop (names answer.now.stopped) (on_session.put (names answer.now.set) (settings_at heard.now octets.now) self.old) }
+    // Each technology of a set, except CS, ranges with its settings from the message.
+    pub(crate) fn put(&mut self, set: u16, heard: &Heard, octets: &[u8])
+        ensures { self.new ≡ on_session.put (names set) (settings_at heard.now octets.now) self.old }
     {
-        self.uwb.follow(answer, octets, heard);
-        self.nan.follow(answer, octets, heard);
-        self.rssi.follow(answer, octets, heard);
-        if has(answer.stopped, UWB) {
+        self.uwb.put(set, heard, octets);
+        self.nan.put(set, heard, octets);
+        self.rssi.put(set, heard, octets);
+    }
+
+    // Each technology of a set stops, and UWB gets the mark.
+    pub(crate) fn stop(&mut self, set: u16)
+        ensures { self.new ≡ on_session.stop (names set) self.old }
+    {
+        self.uwb.stop(set);
+        self.nan.stop(set);
+        self.rssi.stop(set);
+        if has(set, UWB) {
             self.mark = 1;
         }
     }
