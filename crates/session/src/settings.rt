@@ -8,11 +8,11 @@ ghost use Rattle.codec.specs.declared.records.Capability.{Capability};
 ghost use Rattle.codec.specs.declared.records.Configuration.{Configuration};
 ghost use Rattle.session.specs.Within.{within_profile};
 
-use crate::within::{within_cs, within_nan, within_uwb};
+use crate::within::{has_channel, has_config_id, has_preamble_index, has_role};
 use codec::technology::{CS, NAN, RSSI, UWB};
 use codec::{
     Capability, Channel, ConfigId, CsConfiguration, Heard, NanConfiguration, PreambleIndex, Rssi,
-    UwbConfiguration,
+    UwbConfiguration, has,
 };
 
 pub(crate) trait Settings: Copy {
@@ -68,7 +68,13 @@ impl Settings for UwbConfiguration {
     }
 
     fn is_within(&self, capability: &Capability) -> bool {
-        within_uwb(&capability.uwb, self)
+        let k = &capability.uwb;
+        has_config_id(k.config_ids, self.config_id)
+            && has_channel(k.channels, self.channel)
+            && has_preamble_index(k.preamble_indexes, self.preamble_index)
+            && k.shortest_interval <= self.interval
+            && k.shortest_slot <= self.slot
+            && has_role(k.roles, self.role)
     }
 }
 
@@ -93,7 +99,7 @@ impl Settings for CsConfiguration {
     }
 
     fn is_within(&self, capability: &Capability) -> bool {
-        within_cs(&capability.cs, self)
+        has(capability.cs.security_types as u16, self.security_level)
     }
 }
 
@@ -120,7 +126,7 @@ impl Settings for NanConfiguration {
     }
 
     fn is_within(&self, capability: &Capability) -> bool {
-        within_nan(&capability.nan, self)
+        self.periodic != 1 || capability.nan.periodic == 1
     }
 }
 
