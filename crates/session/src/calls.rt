@@ -8,8 +8,7 @@ ghost use Rattle.session.specs.Rules.{Said, valid_profile, conclude, give_out};
 ghost use Rattle.session.specs.Session.{on_session, Gives, Does, profile_of, started};
 
 use crate::configuration::configure;
-use crate::replies::{answered, refusal, valid_profile};
-use crate::state::{Answer, Profile, Session, Started, Step, fresh};
+use crate::state::{Answer, Profile, Session, Started, Step};
 use crate::stop::halt;
 use codec::message::{CAPABILITY_REQUEST, CAPABILITY_RESPONSE, CONFIGURATION, STOP};
 use codec::refusal::{NOT_FOR_TAG, NOT_VALID};
@@ -21,24 +20,20 @@ pub fn start(profile: Record, replies: u8) -> Started
     ensures { result ≡ started (profile_of profile replies) }
 {
     let response = (profile.id == CAPABILITY_RESPONSE)
-        & codec::valid_response(profile.set, profile.capability);
-    if !(response & codec::is_zero_configuration(profile.configuration) & (replies < 3)) {
+        & codec::is_zero_configuration(profile.configuration);
+    let accepted = Profile {
+        set: profile.set,
+        replies,
+        capability: profile.capability,
+    };
+    if !(response & accepted.is_valid()) {
         return Started {
-            session: fresh(Profile {
-                set: 0,
-                replies: 0,
-                capability: codec::zero_capability(),
-            }),
+            session: Session::fresh(Profile::empty()),
             refusal: NOT_VALID,
         };
     }
-    let capability = profile.capability;
     Started {
-        session: fresh(Profile {
-            set: profile.set,
-            replies,
-            capability,
-        }),
+        session: Session::fresh(accepted),
         refusal: 0,
     }
 }
@@ -58,7 +53,7 @@ fn mark_given(blocks: u16, w: Written, mark: u8) -> u8
 fn hear(profile: &Profile, octets: &[u8]) -> Heard
     ensures { Hears (demand (valid_profile profile.now) not_valid (reading octets.now)) octets.now result }
 {
-    if !valid_profile(profile) {
+    if !profile.is_valid() {
         return codec::unheard(NOT_VALID);
     }
     codec::hear(octets)
@@ -72,7 +67,7 @@ fn give_out(s: &mut Session, wanted: u16, out: &mut [u8]) -> Answer
     let blocks = common(wanted, s.profile.set);
     let w = codec::write_capability_response(blocks, s.profile.capability, out);
     s.mark = mark_given(blocks, w, s.mark);
-    answered(w, 0, 0)
+    Answer::after(w, 0, 0)
 }
 
 // What a session answers to a message.
@@ -81,13 +76,13 @@ fn respond(s: &mut Session, octets: &[u8], out: &mut [u8]) -> Answer
 {
     let heard = hear(&s.profile, octets);
     if heard.refusal != 0 {
-        return refusal(heard.refusal);
+        return Answer::refused(heard.refusal);
     }
     match heard.id {
         CAPABILITY_REQUEST => give_out(s, heard.set, out),
         CONFIGURATION => configure(s, &heard, octets, out),
         STOP => halt(s, heard.set, out),
-        _ => refusal(NOT_FOR_TAG),
+        _ => Answer::refused(NOT_FOR_TAG),
     }
 }
 
@@ -103,8 +98,8 @@ pub fn message(mut s: Session, octets: &[u8], out: &mut [u8]) -> Step
 pub fn advertise(mut s: Session, out: &mut [u8]) -> Step
     ensures { Does s (record { said = Said.advertisement; lent = out.old }) result.answer result.session out.new }
 {
-    let mut answer = refusal(NOT_VALID);
-    if valid_profile(&s.profile) {
+    let mut answer = Answer::refused(NOT_VALID);
+    if s.profile.is_valid() {
         answer = give_out(&mut s, ALL, out);
     }
     Step { session: s, answer }

@@ -5,7 +5,7 @@ ghost use Rattle.codec.specs.Inner.Places.{settings_at};
 ghost use Rattle.session.specs.Rules.{conclude, configure};
 ghost use Rattle.session.specs.Session.{on_session, Gives};
 
-use crate::replies::{answered, deliver};
+use crate::replies::deliver;
 use crate::settings::Settings;
 use crate::state::{Answer, Profile, Session};
 use codec::{
@@ -33,13 +33,8 @@ pub(crate) fn configure(s: &mut Session, heard: &Heard, octets: &[u8], out: &mut
     let nan = eligible::<NanConfiguration>(&s.profile, heard, octets, false);
     let rssi = eligible::<Rssi>(&s.profile, heard, octets, false);
     let those = set_naming(uwb, cs, nan, rssi);
-    let w = deliver(
-        s.profile.replies,
-        SetMessage::ConfigurationResponse,
-        those,
-        out,
-    );
-    let answer = answered(w, those, 0);
+    let w = deliver(&s.profile, SetMessage::ConfigurationResponse, those, out);
+    let answer = Answer::after(w, those, 0);
     s.put(answer.set, heard, octets);
     answer
 }

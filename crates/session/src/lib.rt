@@ -3,6 +3,7 @@
 
 mod calls;
 mod configuration;
+mod profile;
 mod replies;
 mod settings;
 mod state;

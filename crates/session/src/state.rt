@@ -165,22 +165,23 @@ impl State for RssiState {
     }
 }
 
-pub(crate) fn fresh(profile: Profile) -> Session
-    ensures { result ≡ fresh profile }
-{
-    let uwb = UwbState::idle();
-    let nan = NanState::idle();
-    let rssi = RssiState::idle();
-    Session {
-        profile,
-        uwb,
-        nan,
-        rssi,
-        mark: 0,
-    }
-}
-
 impl Session {
+    // Nothing ranges.
+    pub(crate) fn fresh(profile: Profile) -> Session
+        ensures { result ≡ fresh profile }
+    {
+        let uwb = UwbState::idle();
+        let nan = NanState::idle();
+        let rssi = RssiState::idle();
+        Session {
+            profile,
+            uwb,
+            nan,
+            rssi,
+            mark: 0,
+        }
+    }
+
     // Each technology of a set, except CS, ranges with its settings from the message.
     pub(crate) fn put(&mut self, set: u16, heard: &Heard, octets: &[u8])
         ensures { self.new ≡ on_session.put (names set) (settings_at heard.now octets.now) self.old }

@@ -2,7 +2,7 @@
 ghost use Rattle.session.specs.Rules.{conclude, halt};
 ghost use Rattle.session.specs.Session.{on_session, Gives};
 
-use crate::replies::{answered, deliver};
+use crate::replies::deliver;
 use crate::state::{Answer, Session, State};
 use codec::technology::{NAN, RSSI, UWB};
 use codec::{SetMessage, has, set_naming};
@@ -15,8 +15,8 @@ pub(crate) fn halt(s: &mut Session, set: u16, out: &mut [u8]) -> Answer
     let nan = has(set, NAN) & s.nan.is_ranging();
     let rssi = has(set, RSSI) & s.rssi.is_ranging();
     let those = set_naming(uwb, false, nan, rssi);
-    let w = deliver(s.profile.replies, SetMessage::StopResponse, those, out);
-    let answer = answered(w, 0, those);
+    let w = deliver(&s.profile, SetMessage::StopResponse, those, out);
+    let answer = Answer::after(w, 0, those);
     s.stop(answer.stopped);
     answer
 }
