@@ -235,16 +235,5 @@ module _ (r : Record) (n : ℕ) where
   start_accepted h = rw h
 
 -- what `start` tests
-pub start_tested : (r : Record) (n : ℕ) → ((eqb r.id 1 && valid_column configurations 0 r.configuration) && valid_profile (as_profile r n)) ≡ is_profile r n
-unfolding valid_profile
-start_tested r n = order (eqb r.id 1) (valid_column configurations 0 r.configuration) (valid (response r.set r.capability)) ∙ ap (λ (x : Bool). x && ltb n 3) same
-  where
-    order : (i z v : Bool) → ((i && z) && (v && ltb n 3)) ≡ (((i && v) && z) && ltb n 3)
-    order false z v = refl
-    order true false true = refl
-    order true false false = refl
-    order true true true = refl
-    order true true false = refl
-
-    same : ((eqb r.id 1 && valid (response r.set r.capability)) && valid_column configurations 0 r.configuration) ≡ (eqb r.id 1 && valid r)
-    same = by_bool (eqb r.id 1) (λ y. rw (y, response_of r (eqb-true r.id 1 y))) (λ n. rw n)
+pub start_tested : (r : Record) → ((eqb r.id 1 && valid (response r.set r.capability)) && valid_column configurations 0 r.configuration) ≡ (eqb r.id 1 && valid r)
+start_tested r = by_bool (eqb r.id 1) (λ y. rw (y, response_of r (eqb-true r.id 1 y))) (λ n. rw n)

@@ -8,6 +8,7 @@ ghost use Rattle.session.specs.Rules.{Said, valid_profile, conclude, give_out};
 ghost use Rattle.session.specs.Session.{on_session, Gives, Does, profile_of, started};
 
 use crate::configuration::configure;
+use crate::profile::Choice;
 use crate::state::{Answer, Profile, Session, Started, Step};
 use crate::stop::halt;
 use codec::message::{CAPABILITY_REQUEST, CAPABILITY_RESPONSE, CONFIGURATION, STOP};
@@ -20,20 +21,20 @@ pub fn start(profile: Record, replies: u8) -> Started
     ensures { result ≡ started (profile_of profile replies) }
 {
     let response = (profile.id == CAPABILITY_RESPONSE)
+        & codec::valid_response(profile.set, profile.capability)
         & codec::is_zero_configuration(profile.configuration);
-    let accepted = Profile {
-        set: profile.set,
-        replies,
-        capability: profile.capability,
-    };
-    if !(response & accepted.is_valid()) {
+    if !(response & Choice::numbered(replies).is_some()) {
         return Started {
             session: Session::fresh(Profile::empty()),
             refusal: NOT_VALID,
         };
     }
     Started {
-        session: Session::fresh(accepted),
+        session: Session::fresh(Profile {
+            set: profile.set,
+            replies,
+            capability: profile.capability,
+        }),
         refusal: 0,
     }
 }

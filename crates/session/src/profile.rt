@@ -1,5 +1,5 @@
 // Profiles: which are valid, and what the choice of explicit replies says.
-ghost use Rattle.std.specs.Prelude.{◌≡◌, ◌<◌, MatchOption};
+ghost use Rattle.std.specs.Prelude.{◌≡◌, ◌<◌, ltb, is_some, MatchOption};
 ghost use Rattle.session.specs.Rules.{valid_profile, explicit};
 ghost use Rattle.session.specs.Session.{empty_profile};
 ghost use Rattle.session.specs.Inner.Replies.{choice_number};
@@ -17,7 +17,8 @@ pub(crate) enum Choice {
 impl Choice {
     // The choice with a number, if there is one.
     pub(crate) fn numbered(number: u8) -> Option<Choice>
-        ensures { MatchOption result (2 < number) (λ choice. choice_number choice ≡ number) }
+        ensures known { is_some result ≡ ltb number 3 }
+        ensures choice { MatchOption result (2 < number) (λ choice. choice_number choice ≡ number) }
     {
         match number {
             0 => Some(Choice::NotSaid),
