@@ -11,7 +11,7 @@ use borrow.Author.Tests.{lt-ltb, le-leb, ne_eqb, eqb-true}
 use Rattle.codec.specs.Layout.{Layout, Values}
 use Rattle.codec.specs.Refusal.{Refusal, Checked, refuse, accept, demand, and_then, number_of, not_for_tag, not_valid}
 use Rattle.codec.specs.Blocks.{capabilities, configurations, cell}
-use Rattle.codec.specs.Records.{blank, capability_in, settings_in, response, only, set_record, answer, fields}
+use Rattle.codec.specs.Records.{blank, response, only, set_record, answer, fields}
 use Rattle.codec.specs.Message.{reading}
 use Rattle.codec.specs.Inner.Places.{settings_at, Hears}
 use Rattle.codec.specs.NormalForm.{normal}
@@ -28,16 +28,11 @@ use Rattle.codec.proofs.ValidCases.{response_valid, used_fields, only_valid, set
 use Rattle.session.specs.declared.state.Profile.{Profile}
 use Rattle.session.specs.declared.state.Session.{Session}
 use Rattle.session.specs.declared.state.Answer.{Answer}
-use Rattle.codec.specs.Technology.{technologies, set_limit, Technology, technology_id, uwb, nan, rssi, names, naming, bit, of_bits, in_both}
-use Rattle.session.specs.Within.{within_profile}
-use Rattle.session.specs.Rules.{valid_profile, eligible, message, advertisement, Call, Kind, request, configuration, stop, kind_of, octets_of, replied, shows, capability_reply, Served, conclude, give_out, configure, set_by, ended_by, halt, serve, respond, call, after, answer_to}
+use Rattle.codec.specs.Technology.{technologies, set_limit, Technology, uwb, names, naming, bit, of_bits, in_both}
+use Rattle.session.specs.Rules.{valid_profile, message, advertisement, Call, Kind, request, configuration, stop, kind_of, octets_of, replied, shows, capability_reply, Served, conclude, give_out, configure, set_by, ended_by, halt, serve, respond, call}
 use Rattle.session.specs.Session.{yes, with_marks, on_session, session_call, Gives, as_profile, profile_of}
 use Rattle.session.specs.Inner.Replies.{Delivers, settle, Answers}
 use Rattle.codec.proofs.SetLaws.{naming_below, names_naming}
-
--- the same session afterwards
-pub with_session : {s x y : Session} {o : Checked (Served Session)} {a : Answer} {b e : List ℕ} → x ≡ y → Gives s o b a y e → Gives s o b a x e
-with_session q g = record { answer = g.answer; session = q ∙ g.session; buffer = g.buffer }
 
 -- a refusal, which leaves session and buffer
 abbrev Refuses : Session → Checked (Served Session) → List ℕ → ℕ → Type 0
@@ -119,53 +114,31 @@ module _ (s : Session) (wanted : ℕ) {blocks m : ℕ} {b e : List ℕ} {w : Wri
         buffer = a.buffer;
       }
 
--- one technology, or none
-abbrev pub alone : Technology → Bool → Technology → Bool
-alone t on u = cond (eqb (technology_id t) (technology_id u)) on false
-
--- what the answer names is set and stopped
-abbrev pub follow : Configuration → Answer → Session → Session
-follow c a s = on_session.stop (names a.stopped) (on_session.put (names a.set) c s)
-
-pub follow_none : (c : Configuration) (w : Written) (s : Session) → follow c (settle w 0 0) s ≡ s
-follow_none c w s = by_bool (eqb w.refusal 0) (λ t. rw t) (λ t. rw t)
-
-module _ (s : Session) (set : ℕ) (b : List ℕ) where
-  pub follow_configure : (c : Configuration) → let o = conclude b (configure on_session s.profile set c s) in follow c (answer_to o) s ≡ after s o
+-- the answer says what is set, or stopped, and that is what happens to the session
+module _ (s : Session) (set : ℕ) {b e : List ℕ} {a : Answer} {n : Session} where
+  pub now_configured : (c : Configuration) → Answers (conclude b (configure on_session s.profile set c s)) b a e → n ≡ on_session.put (names a.set) c s
+      → Gives s (conclude b (configure on_session s.profile set c s)) b a n e
   unfolding conclude
-  follow_configure c = let f = set_by on_session s.profile set c s in
-      by_bool (leb (length (octets_of (configure on_session s.profile set c s).reply)) (length b))
-      (λ t. rw t (ap (λ (g : Technology → Bool). on_session.put g c s) (fun_ext (names_naming f))))
-      (λ t. rw t)
+  now_configured c g k = let f = set_by on_session s.profile set c s in
+      record {
+        answer = g.answer;
+        session = k ∙ rw g.answer (by_bool (leb (length (octets_of (configure on_session s.profile set c s).reply)) (length b))
+            (λ t. rw t (ap (λ (h : Technology → Bool). on_session.put h c s) (fun_ext (names_naming f))))
+            (λ t. rw t));
+        buffer = g.buffer;
+      }
 
-  pub follow_halt : (c : Configuration) → let o = conclude b (halt on_session s.profile set s) in follow c (answer_to o) s ≡ after s o
+  pub now_halted : Answers (conclude b (halt on_session s.profile set s)) b a e → n ≡ on_session.stop (names a.stopped) s
+      → Gives s (conclude b (halt on_session s.profile set s)) b a n e
   unfolding conclude
-  follow_halt c = let f = ended_by on_session s.profile set s in
-      by_bool (leb (length (octets_of (halt on_session s.profile set s).reply)) (length b))
-      (λ t. rw t (ap (λ (g : Technology → Bool). on_session.stop g s) (fun_ext (names_naming f))))
-      (λ t. rw t)
-
--- ---- eligible, by what is tested first: named, in the profile, not barred
-
-module _ (p : Profile) (set : ℕ) (c : Configuration) (barred : Technology → Bool) (t : Technology) where
-  pub ineligible : ((names set t && names p.set t) && not (barred t)) ≡ false → false ≡ eligible p set c barred t
-  unfolding eligible
-  ineligible = go (names set t) (names p.set t) (within_profile t (capability_in p.capability t) (settings_in c t)) (not (barred t))
-    where
-      go : (named has within free : Bool) → ((named && has) && free) ≡ false → false ≡ (named && (has && (within && free)))
-      go false has within free e = refl
-      go true false within free e = refl
-      go true true within free e = rw e (sym (and-false within))
-
-  pub by_settings : ((names set t && names p.set t) && not (barred t)) ≡ true → within_profile t (capability_in p.capability t) (settings_in c t) ≡ eligible p set c barred t
-  unfolding eligible
-  by_settings = go (names set t) (names p.set t) (within_profile t (capability_in p.capability t) (settings_in c t)) (not (barred t))
-    where
-      go : (named has within free : Bool) → ((named && has) && free) ≡ true → within ≡ (named && (has && (within && free)))
-      go true true within true e = sym (with-true within)
-      go true true within false e = absurd (true≢false (sym e))
-      go true false within free e = absurd (true≢false (sym e))
-      go false has within free e = absurd (true≢false (sym e))
+  now_halted g k = let f = ended_by on_session s.profile set s in
+      record {
+        answer = g.answer;
+        session = k ∙ rw g.answer (by_bool (leb (length (octets_of (halt on_session s.profile set s).reply)) (length b))
+            (λ t. rw t (ap (λ (h : Technology → Bool). on_session.stop h s) (fun_ext (names_naming f))))
+            (λ t. rw t));
+        buffer = g.buffer;
+      }
 
 -- ---- what a Stop ends, where CS is never ranging
 

@@ -1,68 +1,40 @@
 // Configurations: which technologies are eligible, and which of them one sets.
-ghost use Rattle.std.specs.Prelude.{◌≡◌};
-ghost use Rattle.codec.specs.Technology.{uwb, cs, nan, rssi};
+ghost use Rattle.std.specs.Prelude.{◌≡◌, ◌&&◌, not};
+ghost use Rattle.codec.specs.Technology.{bit};
 ghost use Rattle.codec.specs.Inner.Places.{settings_at};
-ghost use Rattle.session.specs.Rules.{conclude, eligible, configure};
-ghost use Rattle.session.specs.Session.{on_session};
-ghost use Rattle.session.specs.Inner.Replies.{Answers};
+ghost use Rattle.session.specs.Rules.{conclude, configure};
+ghost use Rattle.session.specs.Session.{on_session, Gives};
 
-use crate::replies::{answered, deliver};
-use crate::state::{Answer, Session};
-use crate::within::{within_cs, within_nan, within_uwb};
-use codec::technology::{CS, NAN, RSSI, UWB};
-use codec::{Heard, SetMessage, both_have, set_naming};
+use crate::replies::deliver;
+use crate::settings::Settings;
+use crate::state::{Answer, Profile, Session};
+use codec::{
+    CsConfiguration, Heard, NanConfiguration, Rssi, SetMessage, UwbConfiguration, both_have,
+    set_naming,
+};
 
-fn eligible_uwb(s: Session, h: Heard, m: &[u8]) -> bool
-    ensures { result ≡ eligible s.profile h.set (settings_at h m.now) (on_session.barred s) uwb }
+// Whether a Configuration sets a technology: it names it, the profile has it, its settings lie within the profile, and it is not barred.
+fn eligible<T: Settings>(profile: &Profile, heard: &Heard, octets: &[u8], barred: bool) -> bool
+    ensures { result ≡ (bit heard.now.set T.ID && (bit profile.now.set T.ID && (T.fits profile.now.capability (T.settings_of (settings_at heard.now octets.now)) && not barred))) }
 {
-    let named = both_have(h.set, s.profile.set, UWB);
-    if !(named & (s.mark == 0)) {
+    let named = both_have(heard.set, profile.set, T::ID);
+    if !named | barred {
         return false;
     }
-    within_uwb(s.profile.capability.uwb, codec::uwb_settings(m, h.uwb))
+    T::at(octets, heard).is_within(&profile.capability)
 }
 
-fn eligible_cs(s: Session, h: Heard, m: &[u8]) -> bool
-    ensures { result ≡ eligible s.profile h.set (settings_at h m.now) (on_session.barred s) cs }
+// Sets what a Configuration sets, which is all that is eligible, and writes message 3 with replies on.
+pub(crate) fn configure(s: &mut Session, heard: &Heard, octets: &[u8], out: &mut [u8]) -> Answer
+    ensures { Gives s.old (conclude out.old (configure on_session s.old.profile heard.now.set (settings_at heard.now octets.now) s.old)) out.old result s.new out.new }
 {
-    let named = both_have(h.set, s.profile.set, CS);
-    if !named {
-        return false;
-    }
-    within_cs(s.profile.capability.cs, codec::cs_settings(m, h.cs))
-}
-
-fn eligible_nan(s: Session, h: Heard, m: &[u8]) -> bool
-    ensures { result ≡ eligible s.profile h.set (settings_at h m.now) (on_session.barred s) nan }
-{
-    let named = both_have(h.set, s.profile.set, NAN);
-    if !named {
-        return false;
-    }
-    within_nan(s.profile.capability.nan, codec::nan_settings(m, h.nan))
-}
-
-#[tactic(auto, unfolding(crate::specs::Rules::eligible))]
-fn eligible_rssi(s: Session, h: Heard, m: &[u8]) -> bool
-    ensures { result ≡ eligible s.profile h.set (settings_at h m.now) (on_session.barred s) rssi }
-{
-    both_have(h.set, s.profile.set, RSSI)
-}
-
-// What a Configuration sets, which is all that is eligible, and message 3 with replies on.
-pub(crate) fn configure(s: Session, h: Heard, m: &[u8], out: &mut [u8]) -> Answer
-    ensures { Answers (conclude out.old (configure on_session s.profile h.set (settings_at h m.now) s)) out.old result out.new }
-{
-    let uwb = eligible_uwb(s, h, m);
-    let cs = eligible_cs(s, h, m);
-    let nan = eligible_nan(s, h, m);
-    let rssi = eligible_rssi(s, h, m);
+    let uwb = eligible::<UwbConfiguration>(&s.profile, heard, octets, s.mark != 0);
+    let cs = eligible::<CsConfiguration>(&s.profile, heard, octets, false);
+    let nan = eligible::<NanConfiguration>(&s.profile, heard, octets, false);
+    let rssi = eligible::<Rssi>(&s.profile, heard, octets, false);
     let those = set_naming(uwb, cs, nan, rssi);
-    let w = deliver(
-        s.profile.replies,
-        SetMessage::ConfigurationResponse,
-        those,
-        out,
-    );
-    answered(w, those, 0)
+    let w = deliver(&s.profile, SetMessage::ConfigurationResponse, those, out);
+    let answer = Answer::after(w, those, 0);
+    s.put(answer.set, heard, octets);
+    answer
 }

@@ -3,7 +3,9 @@
 
 mod calls;
 mod configuration;
+mod profile;
 mod replies;
+mod settings;
 mod state;
 mod stop;
 mod within;

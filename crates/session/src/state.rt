@@ -1,12 +1,14 @@
 // The session record, and what its calls return.
-ghost use Rattle.std.specs.Prelude.{◌≡◌};
+ghost use Rattle.std.specs.Prelude.{◌≡◌, ℕ, cond};
+ghost use Rattle.codec.specs.Technology.{bit, names};
 ghost use Rattle.codec.specs.Blocks.{configurations};
 ghost use Rattle.codec.specs.Records.{blank};
-ghost use Rattle.session.specs.Session.{fresh};
+ghost use Rattle.codec.specs.Inner.Places.{settings_at};
+ghost use Rattle.session.specs.Session.{yes, on_session, fresh};
 
-use codec::{
-    Capability, Channel, ConfigId, NanConfiguration, PreambleIndex, Rssi, UwbConfiguration,
-};
+use crate::settings::Settings;
+use codec::technology::UWB;
+use codec::{Capability, Heard, NanConfiguration, Rssi, UwbConfiguration, has};
 
 // What the tag can do, with the choice of explicit replies: 0 not said, which means off, 1 on, 2 off.
 #[repr(C)]
@@ -76,91 +78,128 @@ pub struct Started {
     pub refusal: u8,
 }
 
-// The states of technologies that are ranging.
-pub(crate) fn ranging_uwb(settings: UwbConfiguration) -> UwbState
-    ensures { result ≡ record { ranging = 1; settings = settings } }
-{
-    UwbState {
-        ranging: 1,
-        settings,
+// What the states of the technologies have in common.
+pub(crate) trait State: Copy {
+    type Settings: Settings;
+
+    ghost state: { ℕ → Self.Settings → Self };
+
+    ghost flag: { Self → ℕ };
+
+    fn new(ranging: u8, settings: Self::Settings) -> Self
+        ensures { result ≡ state ranging settings };
+
+    fn is_ranging(&self) -> bool
+        ensures { result ≡ yes (flag self.now) };
+
+    fn idle() -> Self
+        ensures { result ≡ state 0 (Self.Settings.settings_of (blank configurations)) }
+    {
+        Self::new(0, Self::Settings::zero())
+    }
+
+    // Where a set names the technology, it ranges with its settings from the message.
+    fn put(&mut self, set: u16, heard: &Heard, octets: &[u8])
+        ensures { self.new ≡ cond (bit set Self.Settings.ID) (state 1 (Self.Settings.settings_of (settings_at heard.now octets.now))) self.old }
+    {
+        if has(set, Self::Settings::ID) {
+            *self = Self::new(1, Self::Settings::at(octets, heard));
+        }
+    }
+
+    // Where a set names the technology, it stops.
+    fn stop(&mut self, set: u16)
+        ensures { self.new ≡ cond (bit set Self.Settings.ID) (state 0 (Self.Settings.settings_of (blank configurations))) self.old }
+    {
+        if has(set, Self::Settings::ID) {
+            *self = Self::idle();
+        }
     }
 }
 
-pub(crate) fn ranging_nan(settings: NanConfiguration) -> NanState
-    ensures { result ≡ record { ranging = 1; settings = settings } }
-{
-    NanState {
-        ranging: 1,
-        settings,
+impl State for UwbState {
+    type Settings = UwbConfiguration;
+
+    ghost state = { λ r x. record { ranging = r; settings = x } };
+
+    ghost flag = { λ s. s.ranging };
+
+    fn new(ranging: u8, settings: UwbConfiguration) -> UwbState {
+        UwbState { ranging, settings }
+    }
+
+    fn is_ranging(&self) -> bool {
+        self.ranging != 0
     }
 }
 
-pub(crate) fn ranging_rssi(settings: Rssi) -> RssiState
-    ensures { result ≡ record { ranging = 1; settings = settings } }
-{
-    RssiState {
-        ranging: 1,
-        settings,
+impl State for NanState {
+    type Settings = NanConfiguration;
+
+    ghost state = { λ r x. record { ranging = r; settings = x } };
+
+    ghost flag = { λ s. s.ranging };
+
+    fn new(ranging: u8, settings: NanConfiguration) -> NanState {
+        NanState { ranging, settings }
+    }
+
+    fn is_ranging(&self) -> bool {
+        self.ranging != 0
     }
 }
 
-// The states of technologies that are not ranging, each a literal: the compiler clears them where they lie.
-pub(crate) fn idle_uwb() -> UwbState
-    ensures { result ≡ record { ranging = 0; settings = (blank configurations).uwb } }
-{
-    UwbState {
-        ranging: 0,
-        settings: UwbConfiguration {
-            address: [0; 2],
-            session_id: 0,
-            config_id: ConfigId(0),
-            channel: Channel(0),
-            preamble_index: PreambleIndex(0),
-            interval: 0,
-            slot: 0,
-            key_length: 0,
-            key: [0; 32],
-            country: [0; 2],
-            role: 0,
-            mode: 0,
-        },
+impl State for RssiState {
+    type Settings = Rssi;
+
+    ghost state = { λ r x. record { ranging = r; settings = x } };
+
+    ghost flag = { λ s. s.ranging };
+
+    fn new(ranging: u8, settings: Rssi) -> RssiState {
+        RssiState { ranging, settings }
+    }
+
+    fn is_ranging(&self) -> bool {
+        self.ranging != 0
     }
 }
 
-pub(crate) fn idle_nan() -> NanState
-    ensures { result ≡ record { ranging = 0; settings = (blank configurations).nan } }
-{
-    NanState {
-        ranging: 0,
-        settings: NanConfiguration {
-            name_length: 0,
-            name: [0; 64],
-            role: 0,
-            periodic: 0,
-        },
+impl Session {
+    // Nothing ranges.
+    pub(crate) fn fresh(profile: Profile) -> Session
+        ensures { result ≡ fresh profile }
+    {
+        let uwb = UwbState::idle();
+        let nan = NanState::idle();
+        let rssi = RssiState::idle();
+        Session {
+            profile,
+            uwb,
+            nan,
+            rssi,
+            mark: 0,
+        }
     }
-}
 
-pub(crate) fn idle_rssi() -> RssiState
-    ensures { result ≡ record { ranging = 0; settings = (blank configurations).rssi } }
-{
-    RssiState {
-        ranging: 0,
-        settings: Rssi { address: [0; 6] },
+    // Each technology of a set, except CS, ranges with its settings from the message.
+    pub(crate) fn put(&mut self, set: u16, heard: &Heard, octets: &[u8])
+        ensures { self.new ≡ on_session.put (names set) (settings_at heard.now octets.now) self.old }
+    {
+        self.uwb.put(set, heard, octets);
+        self.nan.put(set, heard, octets);
+        self.rssi.put(set, heard, octets);
     }
-}
 
-pub(crate) fn fresh(profile: Profile) -> Session
-    ensures { result ≡ fresh profile }
-{
-    let uwb = idle_uwb();
-    let nan = idle_nan();
-    let rssi = idle_rssi();
-    Session {
-        profile,
-        uwb,
-        nan,
-        rssi,
-        mark: 0,
+    // Each technology of a set stops, and UWB gets the mark.
+    pub(crate) fn stop(&mut self, set: u16)
+        ensures { self.new ≡ on_session.stop (names set) self.old }
+    {
+        self.uwb.stop(set);
+        self.nan.stop(set);
+        self.rssi.stop(set);
+        if has(set, UWB) {
+            self.mark = 1;
+        }
     }
 }

@@ -5,9 +5,16 @@ use Rattle.codec.specs.Refusal.{Checked}
 use Rattle.codec.specs.Writing.{fitting, LaysOut}
 use Rattle.codec.specs.declared.records.Record.{Record}
 use Rattle.codec.specs.declared.records.Written.{Written}
+use Rattle.session.specs.declared.profile.Choice.{Choice}
 use Rattle.session.specs.declared.state.Session.{Session}
 use Rattle.session.specs.declared.state.Answer.{Answer}
 use Rattle.session.specs.Rules.{octets_of, Served, answer_to, buffer_after}
+
+-- the number of a choice of explicit replies
+abbrev pub choice_number : Choice → ℕ
+choice_number Choice.NotSaid = 0
+choice_number Choice.On = 1
+choice_number Choice.Off = 2
 
 -- the octets of a reply, into a buffer
 abbrev pub Delivers : Option Record → List ℕ → Written → List ℕ → Type 0

@@ -1,10 +1,10 @@
 use Rattle.session.specs.Rules.{advertisement}
-use Rattle.session.proofs.Steps.{invalid, advertised, given}
+use Rattle.session.proofs.Steps.{invalid, advertised}
 use mathlib.Core.Path.{◌∙◌, sym}
 use Rattle.session.proofs.calls.advertise.Goals as goal
 
-pub returns-then-valid_profile : goal.returns-then-valid_profile
-returns-then-valid_profile c = let v = sym c.valid_profile.ensures ∙ c.if-valid_profile.true in rw c.answered-answer.ensures (advertised c.args.s c.args.out.now v (given c.args.s 15 c.common-blocks.ensures c.mark_given.ensures v c.write_capability_response-w.ensures))
+pub returns-then-is_valid : goal.returns-then-is_valid
+returns-then-is_valid c = advertised c.args.s c.args.out.now (sym c.is_valid.ensures ∙ c.if-is_valid.true) c.give_out-answer.ensures
 
-pub returns-else-valid_profile : goal.returns-else-valid_profile
-returns-else-valid_profile c = rw c.refusal-answer.ensures (invalid c.args.s (record { said = advertisement; lent = c.args.out.now }) (sym c.valid_profile.ensures ∙ c.if-valid_profile.false))
+pub returns-else-is_valid : goal.returns-else-is_valid
+returns-else-is_valid c = rw c.refused-answer.ensures (invalid c.args.s (record { said = advertisement; lent = c.args.out.now }) (sym c.is_valid.ensures ∙ c.if-is_valid.false))

@@ -1,7 +1,6 @@
-use borrow.Author.Tests.{eq-eqb}
-use native.Mathlib.Omega.{arith}
+use mathlib.Core.Path.{sym, ◌∙◌}
 use Rattle.session.proofs.Steps.{set_delivered}
 use Rattle.session.proofs.replies.deliver.Goals as goal
 
 pub returns : goal.returns
-returns c = rw (eq-eqb c.args.replies 1 (omega arith)) (set_delivered c.args.message c.requires c.write_set.ensures)
+returns c = rw (sym c.replies_explicitly.ensures ∙ c.if-not-replies_explicitly.false) (set_delivered c.args.message c.requires c.write_set.ensures)
