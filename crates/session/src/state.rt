@@ -182,6 +182,15 @@ impl Session {
         }
     }
 
+    // The capabilities of a set are given out, and UWB loses the mark.
+    pub(crate) fn give(&mut self, set: u16)
+        ensures { self.new ≡ on_session.give (names set) self.old }
+    {
+        if has(set, UWB) {
+            self.mark = 0;
+        }
+    }
+
     // Each technology of a set, except CS, ranges with its settings from the message.
     pub(crate) fn put(&mut self, set: u16, heard: &Heard, octets: &[u8])
         ensures { self.new ≡ on_session.put (names set) (settings_at heard.now octets.now) self.old }
