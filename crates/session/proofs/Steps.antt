@@ -1,13 +1,13 @@
 -- From what the codec's writers promise to what a call gives.
-use Prim.Native.Nat.{ℕ, zero-le, ◌<◌}
+use Prim.Native.Nat.{ℕ, ◌<◌}
 use native.Mathlib.Omega.{arith}
 use mathlib.Core.Path.{◌≡◌, refl, sym, ap, subst, fun_ext, ◌∙◌}
 use mathlib.Core.List.{List, [], ◌∷◌}
-use mathlib.Core.Option.{none, some}
-use mathlib.Core.Bool.{Bool, true, false, cond, not, ◌&&◌, ◌||◌, and-true as with-true, and-false, true≢false}
+use mathlib.Core.Option.{some}
+use mathlib.Core.Bool.{Bool, true, false, cond, not, ◌&&◌, ◌||◌, and-false, true≢false}
 use lib.Dec.{eqb, ltb, leb}
 use lib.ListN.{length}
-use borrow.Author.Tests.{lt-ltb, le-leb, ne_eqb, eqb-true}
+use borrow.Author.Tests.{lt-ltb, ne_eqb, eqb-true}
 use Rattle.codec.specs.Layout.{Layout, Values}
 use Rattle.codec.specs.Refusal.{Refusal, Checked, refuse, accept, demand, and_then, number_of, not_for_tag, not_valid}
 use Rattle.codec.specs.Blocks.{capabilities, configurations, cell}
@@ -30,7 +30,7 @@ use Rattle.session.specs.declared.state.Session.{Session}
 use Rattle.session.specs.declared.state.Answer.{Answer}
 use Rattle.codec.specs.Technology.{technologies, set_limit, Technology, uwb, names, naming, bit, of_bits, in_both}
 use Rattle.session.specs.Rules.{valid_profile, message, advertisement, Call, Kind, request, configuration, stop, kind_of, octets_of, replied, shows, capability_reply, Served, conclude, give_out, configure, set_by, ended_by, halt, serve, respond, call}
-use Rattle.session.specs.Session.{yes, with_marks, on_session, session_call, Gives, as_profile, profile_of}
+use Rattle.session.specs.Session.{yes, on_session, session_call, Gives, as_profile, profile_of}
 use Rattle.session.specs.Inner.Replies.{Delivers, settle, Answers}
 use Rattle.codec.proofs.SetLaws.{naming_below, names_naming}
 
@@ -49,10 +49,6 @@ delivered r v h = record { answers = rw v at h.answers; leaves = rw v at h.leave
 
 pub set_delivered : (m : SetMessage) {set : ℕ} {b e : List ℕ} {w : Written} → set < 16 → Writes (set_record m set) b w e → Delivers (some (set_record m set)) b w e
 set_delivered m {set} l h = delivered (set_record m set) (set_valid m set ∙ lt-ltb set 16 l) h
-
--- no reply needs no room
-pub silent : (b : List ℕ) → Delivers none b (record { refusal = 0; length = 0 }) b
-silent b = record { answers = rw (le-leb 0 (length b) zero-le); leaves = rw (le-leb 0 (length b) zero-le) }
 
 -- fields that are valid where the profile names them are so where the reply does
 valid_shown : (L : Layout) (v : Values L) (has named : Bool) → (has ≡ true → named ≡ true) → valid_fields L named v ≡ true → (not has || valid_fields L true v) ≡ true
@@ -95,22 +91,21 @@ module _ (v : Served Session) {b e : List ℕ} {w : Written} (d : Delivers v.rep
       (λ t. record { answer = rw (d.answers, t); buffer = rw (d.leaves, t) })
       (λ f. record { answer = rw (d.answers, f); buffer = rw (d.leaves, f) })
 
--- what a Capability Response gives out: the mark goes where its blocks have UWB
-module _ (s : Session) (wanted : ℕ) {blocks m : ℕ} {b e : List ℕ} {w : Written}
+-- what a Capability Response gives out, if it is written
+module _ (s : Session) (wanted : ℕ) {blocks : ℕ} {n : Session} {b e : List ℕ} {w : Written}
     (k : blocks ≡ naming (in_both wanted s.profile.set))
-    (q : m ≡ cond (bit blocks 0 && eqb w.refusal 0) 0 s.mark)
+    (q : n ≡ on_session.give (names (cond (eqb w.refusal 0) blocks 0)) s)
     (v : valid_profile s.profile ≡ true) (h : Writes (response blocks (only blocks s.profile.capability)) b w e) where
-  pub given : Gives s (conclude b (give_out on_session s.profile (names wanted) s)) b (settle w 0 0) (with_marks s (λ t. m)) e
+  pub given : Gives s (conclude b (give_out on_session s.profile (names wanted) s)) b (settle w 0 0) n e
   unfolding conclude shows
   given = let f = shows s.profile (names wanted) in
       let d = capabilities_delivered s.profile wanted v k h in
       let a = settled (give_out on_session s.profile (names wanted) s) d in
-      let x = ap (λ (n : ℕ). bit n 0) k ∙ names_naming f uwb in
       record {
         answer = a.answer;
-        session = by_bool (leb (length (normal (capability_reply s.profile (names wanted)))) (length b))
-            (λ t. rw (q, x, d.answers, t, with-true (f uwb)))
-            (λ t. rw (q, d.answers, t, and-false (bit blocks 0)));
+        session = q ∙ by_bool (leb (length (normal (capability_reply s.profile (names wanted)))) (length b))
+            (λ t. rw (d.answers, t, k, names_naming f uwb))
+            (λ t. rw (d.answers, t));
         buffer = a.buffer;
       }
 

@@ -1,7 +1,7 @@
 // The calls: start, message, advertise. They lend the capability to the writer from the session itself.
-ghost use Rattle.std.specs.Prelude.{◌≡◌, cond, ◌&&◌, eqb, true};
+ghost use Rattle.std.specs.Prelude.{◌≡◌, true};
 ghost use Rattle.codec.specs.Refusal.{demand, not_valid};
-ghost use Rattle.codec.specs.Technology.{bit, names};
+ghost use Rattle.codec.specs.Technology.{names};
 ghost use Rattle.codec.specs.Inner.Places.{Hears};
 ghost use Rattle.codec.specs.Message.{reading};
 ghost use Rattle.session.specs.Rules.{Said, valid_profile, conclude, give_out};
@@ -13,8 +13,8 @@ use crate::state::{Answer, Profile, Session, Started, Step};
 use crate::stop::halt;
 use codec::message::{CAPABILITY_REQUEST, CAPABILITY_RESPONSE, CONFIGURATION, STOP};
 use codec::refusal::{NOT_FOR_TAG, NOT_VALID};
-use codec::technology::{ALL, UWB};
-use codec::{Heard, Record, Written, common, has};
+use codec::technology::ALL;
+use codec::{Heard, Record, common, set_if};
 
 // A session with an accepted profile, or 12 and a fresh session with an empty one, replies not said.
 pub fn start(profile: Record, replies: u8) -> Started
@@ -39,17 +39,6 @@ pub fn start(profile: Record, replies: u8) -> Started
     }
 }
 
-// The mark after message 1 was written with these blocks, or refused.
-fn mark_given(blocks: u16, w: Written, mark: u8) -> u8
-    ensures { result ≡ cond (bit blocks 0 && eqb w.refusal 0) 0 mark }
-{
-    if has(blocks, UWB) & (w.refusal == 0) {
-        0
-    } else {
-        mark
-    }
-}
-
 // What a tag with this profile hears: 12 if the profile is not valid, else what the reader says.
 fn hear(profile: &Profile, octets: &[u8]) -> Heard
     ensures { Hears (demand (valid_profile profile.now) not_valid (reading octets.now)) octets.now result }
@@ -67,7 +56,7 @@ fn give_out(s: &mut Session, wanted: u16, out: &mut [u8]) -> Answer
 {
     let blocks = common(wanted, s.profile.set);
     let w = codec::write_capability_response(blocks, s.profile.capability, out);
-    s.mark = mark_given(blocks, w, s.mark);
+    s.give(set_if(w.refusal == 0, blocks));
     Answer::after(w, 0, 0)
 }
 

@@ -28,7 +28,7 @@ fn eligible<T: Settings>(profile: &Profile, heard: &Heard, octets: &[u8], barred
 pub(crate) fn configure(s: &mut Session, heard: &Heard, octets: &[u8], out: &mut [u8]) -> Answer
     ensures { Gives s.old (conclude out.old (configure on_session s.old.profile heard.now.set (settings_at heard.now octets.now) s.old)) out.old result s.new out.new }
 {
-    let uwb = eligible::<UwbConfiguration>(&s.profile, heard, octets, s.mark != 0);
+    let uwb = eligible::<UwbConfiguration>(&s.profile, heard, octets, s.is_barred());
     let cs = eligible::<CsConfiguration>(&s.profile, heard, octets, false);
     let nan = eligible::<NanConfiguration>(&s.profile, heard, octets, false);
     let rssi = eligible::<Rssi>(&s.profile, heard, octets, false);

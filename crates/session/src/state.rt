@@ -4,7 +4,7 @@ ghost use Rattle.codec.specs.Technology.{bit, names};
 ghost use Rattle.codec.specs.Blocks.{configurations};
 ghost use Rattle.codec.specs.Records.{blank};
 ghost use Rattle.codec.specs.Inner.Places.{settings_at};
-ghost use Rattle.session.specs.Session.{yes, on_session, fresh};
+ghost use Rattle.session.specs.Session.{yes, flag, on_session, fresh};
 
 use crate::settings::Settings;
 use codec::technology::UWB;
@@ -84,18 +84,18 @@ pub(crate) trait State: Copy {
 
     ghost state: { ℕ → Self.Settings → Self };
 
-    ghost flag: { Self → ℕ };
+    ghost ranging: { Self → ℕ };
 
-    fn new(ranging: u8, settings: Self::Settings) -> Self
-        ensures { result ≡ state ranging settings };
+    fn new(on: bool, settings: Self::Settings) -> Self
+        ensures { result ≡ state (flag on) settings };
 
     fn is_ranging(&self) -> bool
-        ensures { result ≡ yes (flag self.now) };
+        ensures { result ≡ yes (ranging self.now) };
 
     fn idle() -> Self
         ensures { result ≡ state 0 (Self.Settings.settings_of (blank configurations)) }
     {
-        Self::new(0, Self::Settings::zero())
+        Self::new(false, Self::Settings::zero())
     }
 
     // Where a set names the technology, it ranges with its settings from the message.
@@ -103,7 +103,7 @@ pub(crate) trait State: Copy {
         ensures { self.new ≡ cond (bit set Self.Settings.ID) (state 1 (Self.Settings.settings_of (settings_at heard.now octets.now))) self.old }
     {
         if has(set, Self::Settings::ID) {
-            *self = Self::new(1, Self::Settings::at(octets, heard));
+            *self = Self::new(true, Self::Settings::at(octets, heard));
         }
     }
 
@@ -122,10 +122,13 @@ impl State for UwbState {
 
     ghost state = { λ r x. record { ranging = r; settings = x } };
 
-    ghost flag = { λ s. s.ranging };
+    ghost ranging = { λ s. s.ranging };
 
-    fn new(ranging: u8, settings: UwbConfiguration) -> UwbState {
-        UwbState { ranging, settings }
+    fn new(on: bool, settings: UwbConfiguration) -> UwbState {
+        UwbState {
+            ranging: u8::from(on),
+            settings,
+        }
     }
 
     fn is_ranging(&self) -> bool {
@@ -138,10 +141,13 @@ impl State for NanState {
 
     ghost state = { λ r x. record { ranging = r; settings = x } };
 
-    ghost flag = { λ s. s.ranging };
+    ghost ranging = { λ s. s.ranging };
 
-    fn new(ranging: u8, settings: NanConfiguration) -> NanState {
-        NanState { ranging, settings }
+    fn new(on: bool, settings: NanConfiguration) -> NanState {
+        NanState {
+            ranging: u8::from(on),
+            settings,
+        }
     }
 
     fn is_ranging(&self) -> bool {
@@ -154,10 +160,13 @@ impl State for RssiState {
 
     ghost state = { λ r x. record { ranging = r; settings = x } };
 
-    ghost flag = { λ s. s.ranging };
+    ghost ranging = { λ s. s.ranging };
 
-    fn new(ranging: u8, settings: Rssi) -> RssiState {
-        RssiState { ranging, settings }
+    fn new(on: bool, settings: Rssi) -> RssiState {
+        RssiState {
+            ranging: u8::from(on),
+            settings,
+        }
     }
 
     fn is_ranging(&self) -> bool {
@@ -179,6 +188,22 @@ impl Session {
             nan,
             rssi,
             mark: 0,
+        }
+    }
+
+    // Whether the mark bars UWB.
+    pub(crate) fn is_barred(&self) -> bool
+        ensures { result ≡ yes self.now.mark }
+    {
+        self.mark != 0
+    }
+
+    // The capabilities of a set are given out, and UWB loses the mark.
+    pub(crate) fn give(&mut self, set: u16)
+        ensures { self.new ≡ on_session.give (names set) self.old }
+    {
+        if has(set, UWB) {
+            self.mark = 0;
         }
     }
 
