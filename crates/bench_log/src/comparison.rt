@@ -125,6 +125,7 @@ pub fn compare(left: &[u8], right: &[u8], before: Kinds, out: &mut [u8]) -> Comp
 }
 
 // What the last line says of the pairs.
+#[tactic(auto, using(crate::proofs::Positions::pairs_text_length))]
 fn put_pairs(out: &mut [u8], kinds: Kinds) -> usize
     requires { length (pairs_text kinds) ≤ length out.old }
     ensures { Put out.old 0 (pairs_text kinds) out.new result }
@@ -136,6 +137,7 @@ fn put_pairs(out: &mut [u8], kinds: Kinds) -> usize
 }
 
 // And of the rest.
+#[tactic(auto, using(crate::proofs::Positions::rest_text_length))]
 fn put_rest(out: &mut [u8], at: usize, kinds: Kinds, left: u64, right: u64) -> usize
     requires { at + length (rest_text kinds left right) ≤ length out.old }
     ensures { Put out.old at (rest_text kinds left right) out.new result }
@@ -148,6 +150,7 @@ fn put_rest(out: &mut [u8], at: usize, kinds: Kinds, left: u64, right: u64) -> u
 }
 
 // The words take 44 octets.
+#[tactic(auto, using(crate::proofs::Positions::pairs_text_length))]
 fn pairs_length(kinds: Kinds) -> usize
     ensures { (result ≡ length (pairs_text kinds)) × (result ≤ 124) }
 {
@@ -158,6 +161,7 @@ fn pairs_length(kinds: Kinds) -> usize
 }
 
 // The words and the newline take 47 octets.
+#[tactic(auto, using(crate::proofs::Positions::rest_text_length))]
 fn rest_length(kinds: Kinds, left: u64, right: u64) -> usize
     ensures { (result ≡ length (rest_text kinds left right)) × (result ≤ 127) }
 {

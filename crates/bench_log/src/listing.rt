@@ -90,6 +90,7 @@ pub fn list(piece: &[u8], before: Totals, out: &mut [u8]) -> Listed
     Listed { totals, length }
 }
 
+#[tactic(auto, using(crate::proofs::Lines::last_line_length))]
 fn put_last_line(out: &mut [u8], totals: Totals, tail: u64) -> usize
     requires { length (last_line totals tail) ≤ length out.old }
     ensures { Put out.old 0 (last_line totals tail) out.new result }
@@ -102,6 +103,7 @@ fn put_last_line(out: &mut [u8], totals: Totals, tail: u64) -> usize
 }
 
 // Its words and the newline take 34 octets.
+#[tactic(auto, using(crate::proofs::Lines::last_line_length))]
 fn last_line_length(totals: Totals, tail: u64) -> usize
     ensures { result ≡ length (last_line totals tail) }
 {

@@ -3,6 +3,7 @@ ghost use Rattle.std.specs.Prelude.{◌≡◌, ◌+◌, ◌*◌, ◌<◌, ◌≤
 ghost use Rattle.codec.specs.Inner.Puts.{Put};
 ghost use Rattle.bench_log.specs.Text.{decimal, hex_digit, hexadecimal};
 
+#[tactic(auto, using(codec::proofs::Puts::put_one))]
 pub(crate) fn put(out: &mut [u8], at: usize, x: u8) -> usize
     requires { at < length out.old }
     ensures { Put out.old at (x ∷ []) out.new result }
@@ -11,6 +12,7 @@ pub(crate) fn put(out: &mut [u8], at: usize, x: u8) -> usize
     at + 1
 }
 
+#[tactic(auto, using(codec::proofs::Puts::put_part))]
 pub(crate) fn put_text(out: &mut [u8], at: usize, text: &[u8]) -> usize
     requires { at + length text.now ≤ length out.old }
     ensures { Put out.old at text.now out.new result }
