@@ -5,7 +5,7 @@ use mathlib.Core.Path.{◌≡◌, refl, sym, ap, ◌∙◌}
 use mathlib.Core.List.{List, []}
 use lib.ListN.{length, get_or}
 use borrow.Author.Tests.{ne_eqb}
-use Rattle.codec.specs.Refusal.{Checked, refuse, accept}
+use Rattle.codec.specs.Refusal.{Checked, Err, Ok}
 use Rattle.codec.specs.Table.{Row, row, block_count, layouts_of}
 use Rattle.codec.specs.Message.{id_of, set_of, blocks_at, block_at, place_after, also, no_id, block_fault, Walked, prepend, walk, parse}
 use Rattle.codec.specs.Listing.{no_block, nth_from, listed, nth_block}
@@ -32,7 +32,7 @@ module _ (m : List ℕ) (at : ℕ) where
     none_left : (n : ℕ) (p : Passes m left at) → left ≡ 0 → no_block ≡ nth_from p.walked.blocks at n
     unfolding walk
     none_left n p z =
-        let e : ◌≡◌ {A = Checked Walked} (accept (record { blocks = []; end = at })) (accept p.walked) = rw z at p.accepted in
+        let e : ◌≡◌ {A = Checked Walked} (Ok (record { blocks = []; end = at })) (Ok p.walked) = rw z at p.accepted in
         let q : ◌≡◌ {A = Walked} (record { blocks = []; end = at }) p.walked = cc in
         ap (λ (w : Walked). nth_from w.blocks at n) q
 
@@ -63,7 +63,7 @@ module _ (m : List ℕ) (at : ℕ) where
 -- ---- a message
 
 module _ (m : List ℕ) where
-  abbrev passes : (blocks : List (List ℕ)) → parse m ≡ accept blocks → Passes m (block_count (row (id_of m)).column (set_of m)) (blocks_at (row (id_of m)).times)
+  abbrev passes : (blocks : List (List ℕ)) → parse m ≡ Ok blocks → Passes m (block_count (row (id_of m)).column (set_of m)) (blocks_at (row (id_of m)).times)
   passes blocks a = let p = parsed m blocks a in record { layouts = layouts_of (row (id_of m)).column; set = set_of m; came = no_id; walked = record { blocks = blocks; end = p.end }; accepted = p.walked }
 
   none : (n : ℕ) → no_block ≡ nth_block m n → Lists m n 0
@@ -74,8 +74,8 @@ module _ (m : List ℕ) where
   lists_alone e n = none n (go (parse m) refl)
     where
       go : (c : Checked (List (List ℕ))) → parse m ≡ c → no_block ≡ listed c (blocks_at (row (id_of m)).times) n
-      go (refuse x) a = refl
-      go (accept blocks) a = none_left m _ _ n (passes blocks a) (ap (λ (R : Row). block_count R.column (set_of m)) e)
+      go (Err x) a = refl
+      go (Ok blocks) a = none_left m _ _ n (passes blocks a) (ap (λ (R : Row). block_count R.column (set_of m)) e)
 
   module _ (f : ℕ) (e : f ≡ number_in (parse m)) where
     pub lists_refused : (n : ℕ) → (f ≡ 0 → ⊥) → Lists m n 0
@@ -83,8 +83,8 @@ module _ (m : List ℕ) where
     lists_refused n h = none n (go (parse m) e)
       where
         go : (c : Checked (List (List ℕ))) → f ≡ number_in c → no_block ≡ listed c (blocks_at (row (id_of m)).times) n
-        go (refuse x) e = refl
-        go (accept blocks) e = absurd (h e)
+        go (Err x) e = refl
+        go (Ok blocks) e = absurd (h e)
 
     module _ (z : f ≡ 0) where
       pub set_room : 4 ≤ length m

@@ -11,7 +11,7 @@ use lib.Count.{ones}
 use lib.Dec.{leb}
 use lib.ListN.{length, get_or}
 use borrow.Author.Tests.{le-leb, lt-leb, leb-true, leb-false, ne_eqb}
-use Rattle.codec.specs.Refusal.{Checked, refuse, accept, and_then, number_of, too_long, ends_early, reserved_id, wrong_version, sets_differ}
+use Rattle.codec.specs.Refusal.{Checked, Err, Ok, and_then, number_of, TooLong, EndsEarly, ReservedId, WrongVersion, SetsDiffer}
 use Rattle.codec.specs.Technology.{bit}
 use Rattle.codec.specs.Layout.{member}
 use Rattle.codec.specs.Blocks.{Column, layouts}
@@ -77,26 +77,26 @@ module _ (k : Column) (m : List ℕ) (at : ℕ) (found : List ℕ) {f : ℕ} {le
   unfolding blocks_from
   blocks_stop z = go (walk (layouts k) (set_of m) m (ones (set_of m)) no_id at) finds
     where
-      go : (w : Checked Walked) → Finds w at found f left → Judged true (and_then w λ w. and_then (end_fault m w.end) λ _. accept w.blocks) at found f left
-      go (refuse x) e = judged_refused e z h.size
-      go (accept w) e = absurd (z e.0)
+      go : (w : Checked Walked) → Finds w at found f left → Judged true (and_then w λ w. and_then (end_fault m w.end) λ _. Ok w.blocks) at found f left
+      go (Err x) e = judged_refused e z h.size
+      go (Ok w) e = absurd (z e.0)
 
   blocks_end : {g : ℕ} → f ≡ 0 → g ≡ number_in (end_fault m (get_or left 4 0)) → Judged true (blocks_from (layouts k) m (ones (set_of m)) at) at found g left
   unfolding blocks_from
   blocks_end {g} z e = go (walk (layouts k) (set_of m) m (ones (set_of m)) no_id at) finds
     where
-      last : (w : Walked) (c : Checked (Unit {0})) → left ≡ noted w.blocks at found → g ≡ number_in c → Judged true (and_then c λ _. accept w.blocks) at found g left
-      last w (refuse x) p e = judged_refused e (λ z. no_zero x (sym e ∙ z)) h.size
-      last w (accept u) p e = record { number = e; places = λ k blocks a. let q : w.blocks ≡ blocks = cc in p ∙ rw q; size = h.size }
+      last : (w : Walked) (c : Checked (Unit {0})) → left ≡ noted w.blocks at found → g ≡ number_in c → Judged true (and_then c λ _. Ok w.blocks) at found g left
+      last w (Err x) p e = judged_refused e (λ z. no_zero x (sym e ∙ z)) h.size
+      last w (Ok u) p e = record { number = e; places = λ k blocks a. let q : w.blocks ≡ blocks = cc in p ∙ rw q; size = h.size }
 
-      go : (w : Checked Walked) → Finds w at found f left → Judged true (and_then w λ w. and_then (end_fault m w.end) λ _. accept w.blocks) at found g left
-      go (refuse x) k = absurd (no_zero x (sym k ∙ z))
-      go (accept w) k = last w (end_fault m w.end) k.1 (e ∙ rw k.2)
+      go : (w : Checked Walked) → Finds w at found f left → Judged true (and_then w λ w. and_then (end_fault m w.end) λ _. Ok w.blocks) at found g left
+      go (Err x) k = absurd (no_zero x (sym k ∙ z))
+      go (Ok w) k = last w (end_fault m w.end) k.1 (e ∙ rw k.2)
 
 -- ---- the version, and what follows the head
 
 module _ (m : List ℕ) where
-  pub body_unread : readable (version_of m) (id_of m) ≡ false → number_of wrong_version ≡ number_in (body m)
+  pub body_unread : readable (version_of m) (id_of m) ≡ false → number_of WrongVersion ≡ number_in (body m)
   unfolding body
   body_unread e = rw e
 
@@ -105,12 +105,12 @@ module _ (m : List ℕ) where
     unfolding body
     body_is = rw r (ap (λ (R : Row). after_head R m) (sym e))
 
-    pub body_short : length m < blocks_at R.times → number_of ends_early ≡ number_in (body m)
+    pub body_short : length m < blocks_at R.times → number_of EndsEarly ≡ number_in (body m)
     unfolding after_head
     body_short l = rw (← body_is, lt-leb _ _ l)
 
     module _ (l : blocks_at R.times ≤ length m) where
-      pub body_sets : sets_agree R.times m ≡ false → number_of sets_differ ≡ number_in (body m)
+      pub body_sets : sets_agree R.times m ≡ false → number_of SetsDiffer ≡ number_in (body m)
       unfolding after_head
       body_sets s = rw (← body_is, le-leb (blocks_at R.times) (length m) l, s)
 
@@ -131,18 +131,18 @@ module _ (m : List ℕ) where
   unfolding blocks_from walk
   set_end r e l = rw (← body_blocks r set_alone e l refl) (go (end_fault m 4))
     where
-      go : (c : Checked (Unit {0})) → number_in c ≡ number_in (and_then {B = List (List ℕ)} c λ _. accept [])
-      go (refuse x) = refl
-      go (accept u) = refl
+      go : (c : Checked (Unit {0})) → number_in c ≡ number_in (and_then {B = List (List ℕ)} c λ _. Ok [])
+      go (Err x) = refl
+      go (Ok u) = refl
 
 -- ---- the head of a message, and then its body
 
 pub head_stop : (m : List ℕ) {f : ℕ} → f ≡ number_in (head_fault m) → (f ≡ 0 → ⊥) → f ≡ number_in (parse m)
 unfolding parse
 head_stop m e h =
-    demand_stop (leb (length m) message_limit) too_long _ _
-    (demand_stop (leb 2 (length m)) ends_early _ _
-    (demand_stop (assigned (id_of m)) reserved_id _ _ (λ z. absurd (h z))))
+    demand_stop (leb (length m) message_limit) TooLong _ _
+    (demand_stop (leb 2 (length m)) EndsEarly _ _
+    (demand_stop (assigned (id_of m)) ReservedId _ _ (λ z. absurd (h z))))
     e
 
 -- what a head without a fault says
@@ -155,7 +155,7 @@ pub opened : (m : List ℕ) {f : ℕ} → f ≡ number_in (head_fault m) → f �
 unfolding parse
 opened m e z =
     by_number (head_fault m) (sym e ∙ z) λ u a.
-    demanded (leb (length m) message_limit) too_long _ u a λ p b.
-    demanded (leb 2 (length m)) ends_early _ u b λ q d.
-    demanded (assigned (id_of m)) reserved_id _ u d λ r k.
+    demanded (leb (length m) message_limit) TooLong _ u a λ p b.
+    demanded (leb 2 (length m)) EndsEarly _ u b λ q d.
+    demanded (assigned (id_of m)) ReservedId _ u d λ r k.
     record { limit = leb-true _ _ p; two = leb-true _ _ q; rest = rw (p, q, r) }

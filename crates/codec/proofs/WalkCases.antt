@@ -10,7 +10,7 @@ use lib.Dec.{leb}
 use lib.ListN.{length, get_or, drop, set, length-set}
 use lib.Seq.{get_or-take, get_or-drop, get_or-set_same}
 use borrow.Author.Tests.{le-leb, leb-true}
-use Rattle.codec.specs.Refusal.{Checked, refuse, accept, and_then, ends_early, wrong_block, block_too_small}
+use Rattle.codec.specs.Refusal.{Checked, Err, Ok, and_then, EndsEarly, WrongBlock, BlockTooSmall}
 use Rattle.codec.specs.Layout.{Layout, least, fault}
 use Rattle.codec.specs.Technology.{bit}
 use Rattle.codec.specs.Blocks.{Column, layouts}
@@ -32,12 +32,12 @@ module _ (L : Layout) (m : List ℕ) (at : ℕ) where
 
   module _ {f : ℕ} (e : f ≡ number_in (size_fault (least L 2) m at)) where
     pub size_stop : (f ≡ 0 → ⊥) → f ≡ number_in (layout_fault L m at)
-    size_stop h = demand_stop enough block_too_small _ _ (demand_stop whole ends_early _ _ (λ z. absurd (h z))) e
+    size_stop h = demand_stop enough BlockTooSmall _ _ (demand_stop whole EndsEarly _ _ (λ z. absurd (h z))) e
 
     -- what a size without a fault says
     module _ (z : f ≡ 0) where
       hold : (enough ≡ true) × (whole ≡ true)
-      hold = by_number (size_fault (least L 2) m at) (sym e ∙ z) λ u a. demanded enough block_too_small _ u a λ p b. demanded whole ends_early _ u b λ q d. (p, q)
+      hold = by_number (size_fault (least L 2) m at) (sym e ∙ z) λ u a. demanded enough BlockTooSmall _ u a λ p b. demanded whole EndsEarly _ u b λ q d. (p, q)
 
       pub size_whole : at + get_or m (at + 1) 0 ≤ length m
       size_whole = leb-true _ _ hold.1
@@ -51,8 +51,8 @@ module _ (L : Layout) (m : List ℕ) (at : ℕ) where
   pub fields_whole : {f : ℕ} → f ≡ number_in (layout_fault L m at) → f ≡ 0 → at + get_or m (at + 1) 0 ≤ length m
   fields_whole e z =
       by_number (layout_fault L m at) (sym e ∙ z) λ u a.
-      demanded enough block_too_small _ u a λ p b.
-      demanded whole ends_early _ u b λ q d. leb-true _ _ q
+      demanded enough BlockTooSmall _ u a λ p b.
+      demanded whole EndsEarly _ u b λ q d. leb-true _ _ q
 
 -- ---- one turn of the walk
 
@@ -66,17 +66,17 @@ module _ (layouts : ℕ → Layout) (set₀ : ℕ) (m : List ℕ) (came : ℕ �
     pub comes : may_come set₀ m came at ≡ true
     pub enough : least (layouts (get_or m at 0)) 2 ≤ get_or m (at + 1) 0
     pub whole : at + get_or m (at + 1) 0 ≤ length m
-    pub fields : fault (layouts (get_or m at 0)) 2 (block_at m at) ≡ accept tt
+    pub fields : fault (layouts (get_or m at 0)) 2 (block_at m at) ≡ Ok tt
     pub size : length (block_at m at) ≡ get_or m (at + 1) 0
     pub first : get_or (block_at m at) 0 0 ≡ get_or m at 0
 
-  pub sound : block_fault layouts set₀ m came at ≡ accept tt → Sound
+  pub sound : block_fault layouts set₀ m came at ≡ Ok tt → Sound
   unfolding block_fault
   sound e =
-      demanded (leb (at + 2) (length m)) ends_early _ tt e λ y₁ e₁.
-      demanded (may_come set₀ m came at) wrong_block _ tt e₁ λ y₂ e₂.
-      demanded (leb (least (layouts (get_or m at 0)) 2) (get_or m (at + 1) 0)) block_too_small _ tt e₂ λ y₃ e₃.
-      demanded (leb (at + get_or m (at + 1) 0) (length m)) ends_early _ tt e₃ λ y₄ e₄.
+      demanded (leb (at + 2) (length m)) EndsEarly _ tt e λ y₁ e₁.
+      demanded (may_come set₀ m came at) WrongBlock _ tt e₁ λ y₂ e₂.
+      demanded (leb (least (layouts (get_or m at 0)) 2) (get_or m (at + 1) 0)) BlockTooSmall _ tt e₂ λ y₃ e₃.
+      demanded (leb (at + get_or m (at + 1) 0) (length m)) EndsEarly _ tt e₃ λ y₄ e₄.
       let enough = leb-true _ _ y₃ in
       let whole = leb-true _ _ y₄ in
       let some : 0 < get_or m (at + 1) 0 = omega (arith, least_from (layouts (get_or m at 0)) 2) in
@@ -97,11 +97,11 @@ module _ (layouts : ℕ → Layout) (set₀ : ℕ) (m : List ℕ) (came : ℕ �
   find_stop (suc n) f found left p e h = go (block_fault layouts set₀ m came at) e
     where
       go : (c : Checked (Unit {0})) → f ≡ number_in c
-          → Finds (and_then c λ _. and_then (walk layouts set₀ m n (also (get_or m at 0) came) (at + get_or m (at + 1) 0)) λ w. accept (prepend (block_at m at) w)) at found f left
-      go (refuse x) e = e
-      go (accept u) e = absurd (h e)
+          → Finds (and_then c λ _. and_then (walk layouts set₀ m n (also (get_or m at 0) came) (at + get_or m (at + 1) 0)) λ w. Ok (prepend (block_at m at) w)) at found f left
+      go (Err x) e = e
+      go (Ok u) e = absurd (h e)
 
-  find_next : (n f : ℕ) (found left : List ℕ) → (n ≡ 0 → ⊥) → Sound → block_fault layouts set₀ m came at ≡ accept tt
+  find_next : (n f : ℕ) (found left : List ℕ) → (n ≡ 0 → ⊥) → Sound → block_fault layouts set₀ m came at ≡ Ok tt
       → Finds (walk layouts set₀ m (n - 1) (also (get_or m at 0) came) (at + get_or m (at + 1) 0)) (at + get_or m (at + 1) 0) (note (get_or m at 0) at found) f left
       → Finds (walk layouts set₀ m n came at) at found f left
   unfolding walk
@@ -109,9 +109,9 @@ module _ (layouts : ℕ → Layout) (set₀ : ℕ) (m : List ℕ) (came : ℕ �
   find_next (suc n) f found left p s a h = rw a (go (walk layouts set₀ m n (also (get_or m at 0) came) (at + get_or m (at + 1) 0)) (rw (sub-one (suc n)) at h))
     where
       go : (c : Checked Walked) → Finds c (at + get_or m (at + 1) 0) (note (get_or m at 0) at found) f left
-          → Finds (and_then c λ w. accept (prepend (block_at m at) w)) at found f left
-      go (refuse x) h = h
-      go (accept w) h =
+          → Finds (and_then c λ w. Ok (prepend (block_at m at) w)) at found f left
+      go (Err x) h = h
+      go (Ok w) h =
           let e : noted (prepend (block_at m at) w).blocks at found ≡ noted w.blocks (at + get_or m (at + 1) 0) (note (get_or m at 0) at found) = λ i. noted w.blocks (at + s.size i) (note (s.first i) at found) in
           (h.0, h.1 ∙ sym e, h.2)
 
@@ -127,13 +127,13 @@ module _ (m : List ℕ) (at met : ℕ) where
     pub headed : f ≡ 0 → Headed
     headed z =
         by_number (id_fault (set_of m) met m at) (sym e ∙ z) λ u a.
-        demanded (leb (at + 2) (length m)) ends_early _ u a λ p b.
-        demanded (may_come (set_of m) m (bit met) at) wrong_block _ u b λ q d.
+        demanded (leb (at + 2) (length m)) EndsEarly _ u a λ p b.
+        demanded (may_come (set_of m) m (bit met) at) WrongBlock _ u b λ q d.
         record { two = leb-true _ _ p; comes = q }
 
     pub head_stop : (k : Column) → (f ≡ 0 → ⊥) → f ≡ number_in (block_fault (layouts k) (set_of m) m (bit met) at)
     unfolding block_fault
-    head_stop k h = demand_stop (leb (at + 2) (length m)) ends_early _ _ (demand_stop (may_come (set_of m) m (bit met) at) wrong_block _ _ (λ z. absurd (h z))) e
+    head_stop k h = demand_stop (leb (at + 2) (length m)) EndsEarly _ _ (demand_stop (may_come (set_of m) m (bit met) at) WrongBlock _ _ (λ z. absurd (h z))) e
 
   pub head_next : (k : Column) → Headed → {f : ℕ} → f ≡ number_in (fields_fault (layouts k) m at) → f ≡ number_in (block_fault (layouts k) (set_of m) m (bit met) at)
   unfolding block_fault

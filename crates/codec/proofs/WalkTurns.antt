@@ -7,7 +7,7 @@ use mathlib.Core.Bool.{not, ◌&&◌}
 use mathlib.Core.List.{List}
 use lib.Count.{ones}
 use lib.ListN.{length, get_or, set}
-use Rattle.codec.specs.Refusal.{accept}
+use Rattle.codec.specs.Refusal.{Ok}
 use Rattle.codec.specs.Technology.{bit}
 use Rattle.codec.specs.Blocks.{Column, layouts}
 use Rattle.codec.specs.Message.{set_of, place_after, also, block_fault}
@@ -63,7 +63,7 @@ module _ (k : Column) (m : List ℕ) (at unset met : ℕ) (s : unset ≡ set_of 
 
           -- and the blocks after it
           module _ (y : g ≡ 0) {more : ℕ} (r : more < 65536) (o : (id : ℕ) → bit more id ≡ also (get_or m at 0) (bit met) id) where
-            sound : block_fault (layouts k) (set_of m) m (bit met) at ≡ accept tt
+            sound : block_fault (layouts k) (set_of m) m (bit met) at ≡ Ok tt
             sound = no_number _ (sym block ∙ y)
 
             fewer : blocks_left m more ≡ blocks_left m met - 1

@@ -2,7 +2,7 @@
 use Rattle.std.specs.Prelude.{ℕ, ◌+◌, ◌≤◌, ◌≡◌, List, [], ◌∷◌, Bool, true, false, ◌&&◌, not, cond, leb, ltb, eqb, length, get_or, set, drop, replicate}
 use Rattle.std.proofs.Math.Option.{Option, none, some}
 use Rattle.codec.specs.Octets.{Octets}
-use Rattle.codec.specs.Refusal.{Checked, refuse, accept, demand, number_of, too_long, ends_early, reserved_id, wrong_block, block_too_small}
+use Rattle.codec.specs.Refusal.{Checked, Err, Ok, demand, number_of, TooLong, EndsEarly, ReservedId, WrongBlock, BlockTooSmall}
 use Rattle.codec.specs.Technology.{Technology, uwb, cs, nan, rssi, technology_id, technologies, bit, known, names}
 use Rattle.codec.specs.Layout.{Layout, number, octets, counted, Values, zeroes, value, least, fault}
 use Rattle.codec.specs.Blocks.{Column, capabilities, configurations, cell, layouts}
@@ -18,8 +18,8 @@ use Rattle.codec.specs.declared.records.Block.{Block}
 
 -- the number that the code gives: 0 for no refusal
 abbrev pub number_in : {A : Type 0} → Checked A → ℕ
-number_in (refuse x) = number_of x
-number_in (accept a) = 0
+number_in (Err x) = number_of x
+number_in (Ok a) = 0
 
 -- whether octets reach past the last field of a block, and what is counted fits its array: as a test, and as what the reading of each
 -- field rests on
@@ -39,10 +39,10 @@ Roomy (counted y x t c ∷ L) at s = (get_or s at 0 ≤ c) × Roomy L (at + 1 + 
 
 abbrev pub head_fault : List ℕ → Checked (Unit {0})
 head_fault m =
-    demand (leb (length m) message_limit) too_long
-    (demand (leb 2 (length m)) ends_early
-    (demand (assigned (id_of m)) reserved_id
-    (accept tt)))
+    demand (leb (length m) message_limit) TooLong
+    (demand (leb 2 (length m)) EndsEarly
+    (demand (assigned (id_of m)) ReservedId
+    (Ok tt)))
 
 -- ---- one block
 
@@ -50,14 +50,14 @@ head_fault m =
 abbrev pub id_fault : ℕ → ℕ → List ℕ → ℕ → Checked (Unit {0})
 id_fault set met m at =
     let id = get_or m at 0 in
-    demand (leb (at + 2) (length m)) ends_early (demand (bit set id && not (bit met id)) wrong_block (accept tt))
+    demand (leb (at + 2) (length m)) EndsEarly (demand (bit set id && not (bit met id)) WrongBlock (Ok tt))
 
 -- its size, and then what is next
 abbrev pub sized : ℕ → List ℕ → ℕ → Checked (Unit {0}) → Checked (Unit {0})
-sized least m at next = demand (leb least (get_or m (at + 1) 0)) block_too_small (demand (leb (at + get_or m (at + 1) 0) (length m)) ends_early next)
+sized least m at next = demand (leb least (get_or m (at + 1) 0)) BlockTooSmall (demand (leb (at + get_or m (at + 1) 0) (length m)) EndsEarly next)
 
 abbrev pub size_fault : ℕ → List ℕ → ℕ → Checked (Unit {0})
-size_fault least m at = sized least m at (accept tt)
+size_fault least m at = sized least m at (Ok tt)
 
 -- its size and its fields, by a layout
 abbrev pub layout_fault : Layout → List ℕ → ℕ → Checked (Unit {0})
@@ -86,8 +86,8 @@ noted (b ∷ blocks) at found = noted blocks (at + length b) (note (get_or b 0 0
 
 -- what the walk leaves: the number of the first fault, or 0 with the places and the end
 abbrev pub Finds : Checked Walked → ℕ → List ℕ → ℕ → List ℕ → Type 0
-Finds (refuse x) at found f left = f ≡ number_of x
-Finds (accept w) at found f left = (f ≡ 0) × (left ≡ noted w.blocks at found) × (get_or left 4 0 ≡ w.end)
+Finds (Err x) at found f left = f ≡ number_of x
+Finds (Ok w) at found f left = (f ≡ 0) × (left ≡ noted w.blocks at found) × (get_or left 4 0 ≡ w.end)
 
 -- of the blocks that are left from a place on, after those whose IDs were met; when none is left, those met are the set
 pub record FindsLeft (k : Column) (m : List ℕ) (at met : ℕ) (found : List ℕ) (f : ℕ) (after : List ℕ) : Type 0 where
@@ -106,7 +106,7 @@ carries_blocks (some k) = true
 -- the number of the first fault, and the places where there is none and they are kept
 pub record Judged (kept : Bool) (c : Checked (List (List ℕ))) (at : ℕ) (found : List ℕ) (f : ℕ) (left : List ℕ) : Type 0 where
   pub number : f ≡ number_in c
-  pub places : kept ≡ true → (blocks : List (List ℕ)) → c ≡ accept blocks → left ≡ noted blocks at found
+  pub places : kept ≡ true → (blocks : List (List ℕ)) → c ≡ Ok blocks → left ≡ noted blocks at found
   pub size : length left ≡ 5
 
 -- ---- the record that the places give
@@ -174,7 +174,7 @@ pub record Passes (m : List ℕ) (left at : ℕ) : Type 0 where
   pub set : ℕ
   pub came : ℕ → Bool
   pub walked : Walked
-  pub accepted : walk layouts set m left came at ≡ accept walked
+  pub accepted : walk layouts set m left came at ≡ Ok walked
 
 -- the place of the n-th of them, 0 for none
 pub record NthPlace (m : List ℕ) (left at n r : ℕ) : Type 0 where
