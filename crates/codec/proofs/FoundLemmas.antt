@@ -9,18 +9,18 @@ use lib.Dec.{leb, ltb, eqb}
 use lib.ListN.{length, get_or, set, drop, get_or-replicate, length-set, length-drop, take-append-drop}
 use lib.Seq.{get_or-set_same, get_or-set_other}
 use borrow.Author.Tests.{eqb-true, eqb-false, eq-eqb, ne_eqb, lt-ltb, not-true, leb-true}
-use Rattle.codec.specs.Refusal.{Checked, Err, Ok, and_then, TooLong, EndsEarly, ReservedId, WrongVersion, SetsDiffer}
+use Rattle.codec.specs.Refusal.{Refusal, Checked, Err, Ok, and_then, TooLong, EndsEarly, ReservedId, WrongVersion, SetsDiffer}
 use Rattle.codec.specs.Technology.{Technology, technology_id, bit, known, names}
 use Rattle.codec.specs.Layout.{Layout, zeroes, value}
 use Rattle.codec.specs.Blocks.{Column, capabilities, configurations, cell, layouts}
 use Rattle.codec.specs.Table.{message_limit, assigned, readable, message_of, row, block_count, layouts_of, set_in}
-use Rattle.codec.specs.Records.{make, response, settings_record, without_blocks, answer, accepted, refused}
+use Rattle.codec.specs.Records.{make, response, settings_record, without_blocks}
 use Rattle.codec.specs.Message.{version_of, id_of, set_of, sets_agree, blocks_at, block_at, also, no_id, block_fault, Walked, prepend, walk, end_fault, blocks_from, after_head, body, parse, fields_in, record_of, reading}
 use Rattle.codec.specs.WellFormed.{Whole, Each, Has, this, later}
-use Rattle.codec.specs.Inner.Places.{number_in, Roomy, no_place, no_places, note, noted, carries_blocks, Judged, fields_at, column_at, column_found, record_at, Located}
+use Rattle.codec.specs.Inner.Places.{Roomy, no_place, no_places, note, noted, carries_blocks, Judged, fields_at, column_at, column_found, record_at, Placed}
 use Rattle.codec.specs.Octets.{Octets}
 use Rattle.codec.proofs.Counting.{has_some, all_named}
-use Rattle.codec.proofs.Outcomes.{by_bool, by_number, and_true_lem, or_false_lem, demanded, chained}
+use Rattle.codec.proofs.Outcomes.{by_bool, by_verdict, verdict_refused, and_true_lem, or_false_lem, demanded, chained}
 use Rattle.codec.proofs.Layouts.{sound_roomy, roomy_from, value_before, fields_there, no_fields}
 use Rattle.codec.proofs.Cells.{cell_fits, layout_of, technology_below}
 use Rattle.codec.proofs.Rows.{times_one, column_there, none_named}
@@ -224,33 +224,32 @@ module _ (m : List ℕ) (blocks : List (List ℕ)) (e : parse m ≡ Ok blocks) w
         let i = all_named (layouts k) (set_of m) (omega (arith, o 2, o 3)) blocks l.whole l.once l.count (technology_id t) n in
         rw (places k h) (holds k (set_of m) m t b start w (walked_column k h) i)
 
-    reads : accepted (record_at m found) ≡ answer (reading m)
+    reads : reading m ≡ Ok (record_at m found)
     unfolding reading
-    reads = rw e (ap accepted record_found)
+    reads = rw e (ap Ok (sym record_found))
 
-pub located : (m : List ℕ) → {f : ℕ} {found : List ℕ} → Judged (carries_blocks (row (id_of m)).column) (parse m) (blocks_at (row (id_of m)).times) no_places f found → Located m f found
-located m {f} {found} j = record {
-  number = j.number;
-  four = λ z. by_number (parse m) (sym j.number ∙ z) λ blocks e. four m blocks e;
-  reads = λ z. by_number (parse m) (sym j.number ∙ z) λ blocks e. reads m blocks e found (λ k. j.places k blocks e);
-  there = λ z. by_number (parse m) (sym j.number ∙ z) λ blocks e. there m blocks e found (λ k. j.places k blocks e);
-}
-
-pub reads_refused : (m : List ℕ) (f : ℕ) → f ≡ number_in (parse m) → (f ≡ 0 → ⊥) → refused f ≡ answer (reading m)
+pub reads_refused : (m : List ℕ) {x : Refusal} → parse m ≡ Err x → reading m ≡ Err x
 unfolding reading
-reads_refused m f e h = go (parse m) e
-  where
-    go : (c : Checked (List (List ℕ))) → f ≡ number_in c → refused f ≡ answer (and_then c λ blocks. Ok (record_of (id_of m) (set_of m) blocks))
-    go (Err x) e = ap refused e
-    go (Ok blocks) e = absurd (h e)
+reads_refused m e = rw e
+
+module _ (m : List ℕ) {found : List ℕ} where
+  pub located : Judged (carries_blocks (row (id_of m)).column) (parse m) (blocks_at (row (id_of m)).times) no_places (Ok tt) found → Placed m found
+  located j = record {
+    four = by_verdict (parse m) j.judges λ blocks e. four m blocks e;
+    reads = by_verdict (parse m) j.judges λ blocks e. reads m blocks e found (λ k. j.places k blocks e);
+    there = by_verdict (parse m) j.judges λ blocks e. there m blocks e found (λ k. j.places k blocks e);
+  }
+
+  pub located_refused : {x : Refusal} → Judged (carries_blocks (row (id_of m)).column) (parse m) (blocks_at (row (id_of m)).times) no_places (Err x) found → reading m ≡ Err x
+  located_refused j = reads_refused m (verdict_refused (parse m) j.judges)
 
 -- the record by the kind of a message without a fault
-module _ {m : List ℕ} {f : ℕ} {places : List ℕ} (l : Located m f places) (z : f ≡ 0) where
-  pub response_found : id_of m ≡ message_of capabilities → accepted (response (known (set_of m)) (column_at capabilities m places)) ≡ answer (reading m)
-  response_found h = let e : response (known (set_of m)) (column_at capabilities m places) ≡ record_at m places = rw h in ap accepted e ∙ l.reads z
+module _ {m places : List ℕ} (l : Placed m places) where
+  pub response_found : id_of m ≡ message_of capabilities → reading m ≡ Ok (response (known (set_of m)) (column_at capabilities m places))
+  response_found h = let e : record_at m places ≡ response (known (set_of m)) (column_at capabilities m places) = rw h in l.reads ∙ ap Ok e
 
-  pub configuration_found : id_of m ≡ message_of configurations → accepted (settings_record (known (set_of m)) (column_at configurations m places)) ≡ answer (reading m)
-  configuration_found h = let e : settings_record (known (set_of m)) (column_at configurations m places) ≡ record_at m places = rw h in ap accepted e ∙ l.reads z
+  pub configuration_found : id_of m ≡ message_of configurations → reading m ≡ Ok (settings_record (known (set_of m)) (column_at configurations m places))
+  configuration_found h = let e : record_at m places ≡ settings_record (known (set_of m)) (column_at configurations m places) = rw h in l.reads ∙ ap Ok e
 
-  pub set_found : ((k : Column) → id_of m ≡ message_of k → ⊥) → accepted (without_blocks (id_of m) (known (set_of m))) ≡ answer (reading m)
-  set_found n = let e : without_blocks (id_of m) (known (set_of m)) ≡ record_at m places = rw (ne_eqb (id_of m) 1 (n capabilities), ne_eqb (id_of m) 2 (n configurations)) in ap accepted e ∙ l.reads z
+  pub set_found : ((k : Column) → id_of m ≡ message_of k → ⊥) → reading m ≡ Ok (without_blocks (id_of m) (known (set_of m)))
+  set_found n = let e : record_at m places ≡ without_blocks (id_of m) (known (set_of m)) = rw (ne_eqb (id_of m) 1 (n capabilities), ne_eqb (id_of m) 2 (n configurations)) in l.reads ∙ ap Ok e

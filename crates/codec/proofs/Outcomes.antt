@@ -1,10 +1,12 @@
--- Laws of checks: what an acceptance says of each, and the number of a refusal.
+-- Laws of checks: what an acceptance says of each, and what a refusal is.
 use Prim.Native.Nat.{ℕ}
 use native.Mathlib.Omega.{arith}
 use mathlib.Core.Path.{◌≡◌, refl, sym}
+use Rattle.std.specs.Prelude.{IsErrAnd, Some, None}
+use Rattle.std.specs.Result.{result_ok}
 use mathlib.Core.Bool.{Bool, true, false, ◌&&◌, ◌||◌}
 use Rattle.codec.specs.Refusal.{Refusal, TooLong, EndsEarly, ReservedId, WrongVersion, SetsDiffer, BlockTooSmall, WrongBlock, NotAllowed, LeftOver, NotForTag, BufferTooShort, NotValid, BrokenRecord, number_of, Checked, Err, Ok, demand, and_then}
-use Rattle.codec.specs.Inner.Places.{number_in}
+use Rattle.codec.specs.Inner.Places.{verdict}
 
 pub by_bool : {C : Type 0} (t : Bool) → (t ≡ true → C) → (t ≡ false → C) → C
 by_bool true f g = f refl
@@ -46,25 +48,43 @@ no_zero BufferTooShort e = omega arith
 no_zero NotValid e = omega arith
 no_zero BrokenRecord e = omega arith
 
+-- a refusal is no acceptance
+pub not_both : {A C : Type 0} {x : Refusal} {a : A} → ◌≡◌ {A = Checked A} (Err x) (Ok a) → C
+not_both e = let z : ◌≡◌ {A = ℕ} 0 1 = cc in absurd (omega arith)
+
+-- what a `?` returns of a refusal
+pub raised : {A : Type 0} (r : Checked A) {x : Refusal} → IsErrAnd r (λ e. e ≡ x) → r ≡ Err x
+raised (Ok a) e = absurd e
+raised (Err y) e = rw e
+
+-- and what `ok` leaves of checks that find nothing
+pub ok_none : {C : Type 0} (c : Checked (Unit {0})) → result_ok c ≡ None → ((x : Refusal) → Err x ≡ c → C) → C
+ok_none (Err x) e k = k x refl
+ok_none (Ok u) e k = let z : ◌≡◌ {A = ℕ} 0 1 = cc in absurd (omega arith)
+
+pub ok_some : (c : Checked (Unit {0})) {u : Unit {0}} → result_ok c ≡ Some u → Ok tt ≡ c
+ok_some (Err x) e = let z : ◌≡◌ {A = ℕ} 0 1 = cc in absurd (omega arith)
+ok_some (Ok u) e = refl
+
+pub verdict_refused : {A : Type 0} (c : Checked A) {x : Refusal} → Err x ≡ verdict c → c ≡ Err x
+verdict_refused (Err y) {x} e = let q : x ≡ y = cc in rw q
+verdict_refused (Ok a) e = not_both e
+
 module _ {A C : Type 0} where
-  -- number 0 is given exactly where nothing is refused
-  pub by_number : (c : Checked A) → number_in c ≡ 0 → ((a : A) → c ≡ Ok a → C) → C
-  by_number (Err x) e k = absurd (no_zero x e)
-  by_number (Ok a) e k = k a refl
+  -- nothing is refused exactly where something is found
+  pub by_verdict : (c : Checked A) → Ok tt ≡ verdict c → ((a : A) → c ≡ Ok a → C) → C
+  by_verdict (Err x) e k = not_both (sym e)
+  by_verdict (Ok a) e k = k a refl
 
   pub demanded : (t : Bool) (x : Refusal) (c : Checked A) (a : A) → demand t x c ≡ Ok a → (t ≡ true → c ≡ Ok a → C) → C
   demanded true x c a e k = k refl e
   demanded false x c a e k = let z : ◌≡◌ {A = ℕ} 0 1 = cc in absurd (omega arith)
 
-pub no_number : (c : Checked (Unit {0})) → number_in c ≡ 0 → c ≡ Ok tt
-no_number (Err x) e = absurd (no_zero x e)
-no_number (Ok u) e = refl
-
 pub chained : {A B C : Type 0} (c : Checked A) (rest : A → Checked B) (b : B) → and_then c rest ≡ Ok b → ((a : A) → c ≡ Ok a → rest a ≡ Ok b → C) → C
 chained (Err x) rest b e k = let z : ◌≡◌ {A = ℕ} 0 1 = cc in absurd (omega arith)
 chained (Ok a) rest b e k = k a refl e
 
--- the number of a test that fails stays, whatever follows
-pub demand_stop : {A B : Type 0} (t : Bool) (x : Refusal) (c : Checked A) (d : Checked B) {f : ℕ} → (f ≡ number_in c → f ≡ number_in d) → f ≡ number_in (demand t x c) → f ≡ number_in (demand t x d)
+-- the refusal of a test that fails stays, whatever follows
+pub demand_stop : {A B : Type 0} (t : Bool) (x : Refusal) (c : Checked A) (d : Checked B) {y : Refusal} → (Err y ≡ c → Err y ≡ d) → Err y ≡ demand t x c → Err y ≡ demand t x d
 demand_stop true x c d k e = k e
-demand_stop false x c d k e = e
+demand_stop false x c d {y} k e = let q : y ≡ x = cc in rw q

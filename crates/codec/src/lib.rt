@@ -31,8 +31,8 @@ pub use octets::all_zero;
 pub use places::{cs_settings, nan_settings, rssi_block, uwb_settings};
 pub use reader::{configuration_read, find, read, response_read, set_read};
 pub use records::{
-    Block, Capability, Configuration, Found, Heard, Reading, Record, SetMessage, Written, refused,
-    unheard, zero_capability, zero_configuration,
+    Block, Capability, Configuration, Heard, Reading, Record, SetMessage, Written, refused,
+    zero_capability, zero_configuration,
 };
 pub use rssi::Rssi;
 pub use technology::{both_have, common, has, has_bit, set_if, set_naming};

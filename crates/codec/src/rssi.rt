@@ -5,9 +5,10 @@ ghost use Rattle.codec.specs.Blocks.{rssi_block};
 ghost use Rattle.codec.specs.Records.{to_rssi, of_rssi};
 ghost use Rattle.codec.specs.Valid.{valid_fields};
 ghost use Rattle.codec.specs.Inner.Puts.{Put, block_if};
-ghost use Rattle.codec.specs.Inner.Places.{number_in, Roomy, layout_fault};
+ghost use Rattle.codec.specs.Inner.Places.{Roomy, layout_fault};
 
 use crate::octets::{address_at, all_zero, put, put_address};
+use crate::refusal::Refusal;
 use crate::sizes::size_fault;
 use crate::technology::RSSI;
 
@@ -18,9 +19,9 @@ pub struct Rssi {
 }
 
 // The first fault of the block at a place of a message: its size.
-pub(crate) fn block_fault(m: &[u8], at: usize) -> u8
+pub(crate) fn block_fault(m: &[u8], at: usize) -> Result<(), Refusal>
     requires { at + 2 ≤ length m.now }
-    ensures { result ≡ number_in (layout_fault rssi_block m.now at) }
+    ensures { result ≡ layout_fault rssi_block m.now at }
 {
     size_fault(m, at, 8)
 }

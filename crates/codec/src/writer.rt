@@ -1,6 +1,7 @@
 // The writer: the normal form of a valid record, into the first octets of a lent buffer.
 ghost use Rattle.std.specs.Prelude.{◌≡◌, true, cond, ◌+◌, ◌≤◌, length};
 ghost use Rattle.codec.specs.Blocks.{capabilities, configurations};
+ghost use Rattle.codec.specs.Refusal.{number_of};
 ghost use Rattle.codec.specs.Table.{assigned, row};
 ghost use Rattle.codec.specs.Inner.Places.{set_alone};
 ghost use Rattle.codec.specs.Records.{response, only, settings_record, without_blocks, set_record};
@@ -10,7 +11,7 @@ ghost use Rattle.codec.specs.Inner.Puts.{Put, head, column_octets, column_size, 
 use crate::message::{CAPABILITY_RESPONSE, CONFIGURATION, assigned};
 use crate::octets::{put, put_u16};
 use crate::records::{Capability, Configuration, Record, SetMessage, Written, message_id};
-use crate::refusal::{BUFFER_TOO_SHORT, NOT_VALID};
+use crate::refusal::Refusal;
 use crate::technology::{CS, NAN, RSSI, SET_LIMIT, UWB, has};
 use crate::validity::{
     is_zero_configuration, rest_zero, valid_capability, valid_configuration, valid_only,
@@ -80,11 +81,11 @@ fn put_head(id: u8, set: u16, out: &mut [u8]) -> usize
     put_u16(out, first, set)
 }
 
-fn refused(number: u8) -> Written
-    ensures { result ≡ record { refusal = number; length = 0 } }
+fn refused(refusal: Refusal) -> Written
+    ensures { result ≡ record { refusal = number_of refusal; length = 0 } }
 {
     Written {
-        refusal: number,
+        refusal: u8::from(refusal),
         length: 0,
     }
 }
@@ -94,11 +95,11 @@ pub fn write_capability_response(set: u16, c: Capability, out: &mut [u8]) -> Wri
     ensures { Writes (response set (only set c)) out.old result out.new }
 {
     if !valid_only(set, c) {
-        return refused(NOT_VALID);
+        return refused(Refusal::NotValid);
     }
     let length = 4 + size_capability(set);
     if out.len() < length {
-        return refused(BUFFER_TOO_SHORT);
+        return refused(Refusal::BufferTooShort);
     }
     let blocks = put_head(CAPABILITY_RESPONSE, set, out);
     put_capability(set, c, out, blocks);
@@ -110,11 +111,11 @@ fn write_configuration(set: u16, c: Configuration, out: &mut [u8]) -> Written
     ensures { Writes (settings_record set c) out.old result out.new }
 {
     if !((set < SET_LIMIT) & valid_configuration(set, c)) {
-        return refused(NOT_VALID);
+        return refused(Refusal::NotValid);
     }
     let length = 6 + size_configuration(set, c);
     if out.len() < length {
-        return refused(BUFFER_TOO_SHORT);
+        return refused(Refusal::BufferTooShort);
     }
     let again = put_head(CONFIGURATION, set, out);
     let blocks = put_u16(out, again, set);
@@ -128,10 +129,10 @@ fn write_without_blocks(id: u8, set: u16, out: &mut [u8]) -> Written
     ensures { Writes (without_blocks id set) out.old result out.new }
 {
     if set >= SET_LIMIT {
-        return refused(NOT_VALID);
+        return refused(Refusal::NotValid);
     }
     if out.len() < 4 {
-        return refused(BUFFER_TOO_SHORT);
+        return refused(Refusal::BufferTooShort);
     }
     put_head(id, set, out);
     Written {
@@ -155,18 +156,18 @@ pub fn write(value: Record, out: &mut [u8]) -> Written
     if value.id == CAPABILITY_RESPONSE {
         let rest = rest_zero(value.set, value.capability);
         if !(rest & is_zero_configuration(value.configuration)) {
-            return refused(NOT_VALID);
+            return refused(Refusal::NotValid);
         }
         return write_capability_response(value.set, value.capability, out);
     }
     if !valid_capability(0, value.capability) {
-        return refused(NOT_VALID);
+        return refused(Refusal::NotValid);
     }
     if value.id == CONFIGURATION {
         return write_configuration(value.set, value.configuration, out);
     }
     if !(assigned(value.id) & is_zero_configuration(value.configuration)) {
-        return refused(NOT_VALID);
+        return refused(Refusal::NotValid);
     }
     write_without_blocks(value.id, value.set, out)
 }
