@@ -60,42 +60,22 @@ fn u64_at(s: &[u8], at: usize) -> u64
     joined64(u32_at(s, at), u32_at(s, at + 4))
 }
 
-// Two octets: a UWB address, a country.
-pub(crate) fn pair_at(s: &[u8], at: usize) -> [u8; 2]
-    requires { at + 2 ≤ length s.now }
-    ensures { result ≡ part at 2 s.now }
+// N octets: an address, a country.
+pub(crate) fn octets_at<const N: usize>(s: &[u8], at: usize) -> [u8; N]
+    requires { at + N ≤ length s.now }
+    ensures { result ≡ part at N s.now }
 {
-    let mut out = [0u8; 2];
-    out.copy_from_slice(&s[at..at + 2]);
+    let mut out = [0u8; N];
+    out.copy_from_slice(&s[at..at + N]);
     out
 }
 
-// Six octets: the address of any other technology.
-pub(crate) fn address_at(s: &[u8], at: usize) -> [u8; 6]
-    requires { at + 6 ≤ length s.now }
-    ensures { result ≡ part at 6 s.now }
+// n octets of a key or a name, in an array of N, with zeros past them.
+pub(crate) fn padded_at<const N: usize>(s: &[u8], at: usize, n: usize) -> [u8; N]
+    requires { (at + n ≤ length s.now) × (n ≤ N) }
+    ensures { result ≡ part at n s.now ++ replicate (N - n) 0 }
 {
-    let mut out = [0u8; 6];
-    out.copy_from_slice(&s[at..at + 6]);
-    out
-}
-
-// k octets of a key, with zeros past them.
-pub(crate) fn key_at(s: &[u8], at: usize, k: usize) -> [u8; 32]
-    requires { (at + k ≤ length s.now) × (k ≤ 32) }
-    ensures { result ≡ part at k s.now ++ replicate (32 - k) 0 }
-{
-    let mut out = [0u8; 32];
-    out[..k].copy_from_slice(&s[at..at + k]);
-    out
-}
-
-// n octets of a name, with zeros past them.
-pub(crate) fn name_at(s: &[u8], at: usize, n: usize) -> [u8; 64]
-    requires { (at + n ≤ length s.now) × (n ≤ 64) }
-    ensures { result ≡ part at n s.now ++ replicate (64 - n) 0 }
-{
-    let mut out = [0u8; 64];
+    let mut out = [0u8; N];
     out[..n].copy_from_slice(&s[at..at + n]);
     out
 }
@@ -179,42 +159,23 @@ fn put_all(out: &mut [u8], at: usize, s: &[u8]) -> usize
     end
 }
 
-// The first n octets of a slice.
-fn put_first(out: &mut [u8], at: usize, s: &[u8], n: usize) -> usize
-    requires { (n ≤ length s.now) × (at + n ≤ length out.old) }
-    ensures { Put out.old at (take n s.now) out.new result }
+// The octets of an array: an address, a country.
+pub(crate) fn put_octets<const N: usize>(out: &mut [u8], at: usize, octets: &[u8; N]) -> usize
+    requires { at + N ≤ length out.old }
+    ensures { Put out.old at octets.now out.new result × (length octets.now ≡ N) }
 {
-    put_all(out, at, &s[..n])
+    put_all(out, at, octets)
 }
 
-// Two octets: a UWB address, a country.
-pub(crate) fn put_pair(out: &mut [u8], at: usize, pair: &[u8; 2]) -> usize
-    requires { at + 2 ≤ length out.old }
-    ensures { Put out.old at pair.now out.new result × (length pair.now ≡ 2) }
+// The first n octets of an array: of a key, a name.
+pub(crate) fn put_first<const N: usize>(
+    out: &mut [u8],
+    at: usize,
+    octets: &[u8; N],
+    n: usize,
+) -> usize
+    requires { (n ≤ N) × (at + n ≤ length out.old) }
+    ensures { Put out.old at (take n octets.now) out.new result × (length (take n octets.now) ≡ n) }
 {
-    put_all(out, at, pair)
-}
-
-// Six octets: the address of any other technology.
-pub(crate) fn put_address(out: &mut [u8], at: usize, address: &[u8; 6]) -> usize
-    requires { at + 6 ≤ length out.old }
-    ensures { Put out.old at address.now out.new result × (length address.now ≡ 6) }
-{
-    put_all(out, at, address)
-}
-
-// The first k octets of a key.
-pub(crate) fn put_key(out: &mut [u8], at: usize, key: &[u8; 32], k: usize) -> usize
-    requires { (k ≤ 32) × (at + k ≤ length out.old) }
-    ensures { Put out.old at (take k key.now) out.new result × (length (take k key.now) ≡ k) }
-{
-    put_first(out, at, key, k)
-}
-
-// The first n octets of a name.
-pub(crate) fn put_name(out: &mut [u8], at: usize, name: &[u8; 64], n: usize) -> usize
-    requires { (n ≤ 64) × (at + n ≤ length out.old) }
-    ensures { Put out.old at (take n name.now) out.new result × (length (take n name.now) ≡ n) }
-{
-    put_first(out, at, name, n)
+    put_all(out, at, &octets[..n])
 }

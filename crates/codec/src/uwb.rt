@@ -9,8 +9,8 @@ ghost use Rattle.codec.specs.Inner.Puts.{Put, block_if, set_octets, before_key, 
 ghost use Rattle.codec.specs.Inner.Places.{number_in, Roomy, layout_fault};
 
 use crate::octets::{
-    all_zero, inside, key_at, pair_at, put, put_key, put_pair, put_u16, put_u32, u16_at, u32_at,
-    zero_from,
+    all_zero, inside, octets_at, padded_at, put, put_first, put_octets, put_u16, put_u32, u16_at,
+    u32_at, zero_from,
 };
 use crate::refusal::{BLOCK_TOO_SMALL, NOT_ALLOWED};
 use crate::sizes::{block_octets, size_fault};
@@ -132,7 +132,7 @@ pub(crate) fn capability(b: &[u8]) -> UwbCapability
     requires { Roomy uwb_capability 2 b.now }
     ensures { result ≡ to_uwb_capability (value uwb_capability 2 b.now) }
 {
-    let address = pair_at(b, 2);
+    let address = octets_at(b, 2);
     UwbCapability {
         address,
         channels: Channels(u32_at(b, 4)),
@@ -151,7 +151,7 @@ fn after_key_fault(b: &[u8], at: usize) -> u8
 {
     let role = at + 2;
     let mode = role + 1;
-    if !allowed_country(pair_at(b, at)) {
+    if !allowed_country(octets_at(b, at)) {
         return NOT_ALLOWED;
     }
     if !inside(1, 2, b[role]) {
@@ -204,9 +204,9 @@ pub(crate) fn configuration(b: &[u8]) -> UwbConfiguration
     let after = 15 + k;
     let role = after + 2;
     let mode = role + 1;
-    let address = pair_at(b, 2);
-    let key = key_at(b, 15, k);
-    let country = pair_at(b, after);
+    let address = octets_at(b, 2);
+    let key = padded_at(b, 15, k);
+    let country = octets_at(b, after);
     UwbConfiguration {
         address,
         session_id: u32_at(b, 4),
@@ -257,7 +257,7 @@ pub(crate) fn put_capability(present: bool, v: UwbCapability, out: &mut [u8], at
     }
     let size = put(out, at, UWB);
     let fields = put(out, size, 20);
-    let channels = put_pair(out, fields, &v.address);
+    let channels = put_octets(out, fields, &v.address);
     let interval = put_sets(v, out, channels);
     let slot = put_u16(out, interval, v.shortest_interval);
     let roles = put(out, slot, v.shortest_slot);
@@ -326,7 +326,7 @@ fn put_after_key(v: UwbConfiguration, out: &mut [u8], at: usize) -> usize
     requires { at + 4 ≤ length out.old }
     ensures { Put out.old at (write uwb_after_key (after_key v)) out.new result × (length v.country ≡ 2) }
 {
-    let role = put_pair(out, at, &v.country);
+    let role = put_octets(out, at, &v.country);
     let mode = put(out, role, v.role);
     put(out, mode, v.mode)
 }
@@ -346,9 +346,9 @@ pub(crate) fn put_configuration(
     let k = v.key_length as usize;
     let size = put(out, at, UWB);
     let fields = put(out, size, 19 + v.key_length);
-    let session_id = put_pair(out, fields, &v.address);
+    let session_id = put_octets(out, fields, &v.address);
     let key_length = put_before_key(v, out, session_id);
     let octets = put(out, key_length, v.key_length);
-    let country = put_key(out, octets, &v.key, k);
+    let country = put_first(out, octets, &v.key, k);
     put_after_key(v, out, country)
 }
