@@ -18,46 +18,22 @@ pub(crate) fn wide(x: u16) -> usize
     x as usize
 }
 
-fn joined16(low: u8, high: u8) -> u16
-    ensures { result ≡ low + 256 * high }
-{
-    low as u16 + 256 * high as u16
-}
-
-fn joined32(low: u16, high: u16) -> u32
-    ensures { result ≡ low + 65536 * high }
-{
-    low as u32 + 65536 * high as u32
-}
-
-fn joined64(low: u32, high: u32) -> u64
-    ensures { result ≡ low + 4294967296 * high }
-{
-    low as u64 + 4294967296 * high as u64
-}
-
 // The number of two octets.
+#[tactic(auto, using(crate::proofs::Laws::two_at))]
 pub(crate) fn u16_at(s: &[u8], at: usize) -> u16
     requires { at + 2 ≤ length s.now }
     ensures { result ≡ of_le 2 at s.now }
 {
-    joined16(s[at], s[at + 1])
+    u16::from_le_bytes(octets_at(s, at))
 }
 
 // The number of four octets.
+#[tactic(auto, using(crate::proofs::Laws::four_at))]
 pub(crate) fn u32_at(s: &[u8], at: usize) -> u32
     requires { at + 4 ≤ length s.now }
     ensures { result ≡ of_le 4 at s.now }
 {
-    joined32(u16_at(s, at), u16_at(s, at + 2))
-}
-
-// The number of eight octets.
-fn u64_at(s: &[u8], at: usize) -> u64
-    requires { at + 8 ≤ length s.now }
-    ensures { result ≡ of_le 8 at s.now }
-{
-    joined64(u32_at(s, at), u32_at(s, at + 4))
+    u32::from_le_bytes(octets_at(s, at))
 }
 
 // N octets: an address, a country.
@@ -80,46 +56,19 @@ pub(crate) fn padded_at<const N: usize>(s: &[u8], at: usize, n: usize) -> [u8; N
     out
 }
 
-// Whether all octets are zero, four at a time, then two and one. It looks at every one, so that the machine code can take many
-// at a time.
+// Whether all octets are zero. It looks at every one, so that the machine code takes many at a time.
 pub fn all_zero(s: &[u8]) -> bool
     ensures { result ≡ all_zero s.now }
 {
-    let mut all = true;
-    let mut i = 0;
-    while 4 <= s.len() - i {
-        all = all & (u32_at(s, i) == 0);
-        i += 4;
-    }
-    while 2 <= s.len() - i {
-        all = all & (u16_at(s, i) == 0);
-        i += 2;
-    }
-    if i < s.len() {
-        return all & (s[i] == 0);
-    }
-    all
+    s.iter().fold(0, |any, octet| any | *octet) == 0
 }
 
-// Whether all octets from a place on are zero, eight at a time and then one by one.
+// Whether all octets from a place on are zero: those past a key or a name.
 pub(crate) fn zero_from(s: &[u8], from: usize) -> bool
     requires { from ≤ length s.now }
     ensures { result ≡ all_zero (drop from s.now) }
 {
-    let mut i = from;
-    while 8 <= s.len() - i {
-        if u64_at(s, i) != 0 {
-            return false;
-        }
-        i += 8;
-    }
-    while i < s.len() {
-        if s[i] != 0 {
-            return false;
-        }
-        i += 1;
-    }
-    true
+    all_zero(&s[from..])
 }
 
 // One octet. Each of these returns the place after what it wrote.

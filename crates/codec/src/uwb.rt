@@ -1,5 +1,5 @@
 // UWB: its two blocks. Channel, preamble index and config ID are kinds of their own, and so are sets of them.
-ghost use Rattle.std.specs.Prelude.{◌≡◌, cond, ◌+◌, ◌≤◌, length, get_or, drop};
+ghost use Rattle.std.specs.Prelude.{◌≡◌, cond, ◌+◌, ◌≤◌, length, get_or};
 ghost use Rattle.codec.specs.Octets.{all_zero};
 ghost use Rattle.codec.specs.Layout.{country, two_letters, spelled, inside, test, zeroed, write, value, fault};
 ghost use Rattle.codec.specs.Blocks.{interval, allowed_key_length, uwb_capability, uwb_configuration, uwb_after_key};
@@ -276,13 +276,6 @@ fn is_zero_key(key: &[u8; 32]) -> bool
     all_zero(key)
 }
 
-fn is_zero_key_from(key: &[u8; 32], from: usize) -> bool
-    requires { from ≤ 32 }
-    ensures { result ≡ all_zero (drop from key.now) }
-{
-    zero_from(key, from)
-}
-
 fn is_zero_configuration(v: UwbConfiguration) -> bool
     ensures { result ≡ zeroed uwb_configuration (of_uwb_configuration v) }
 {
@@ -304,7 +297,7 @@ pub(crate) fn valid_configuration(present: bool, v: UwbConfiguration) -> bool
     }
     let country = v.country;
     let k = v.key_length as usize;
-    let last = inside(1, 2, v.role) & (inside(1, 2, v.mode) & is_zero_key_from(&v.key, k));
+    let last = inside(1, 2, v.role) & (inside(1, 2, v.mode) & zero_from(&v.key, k));
     allowed_interval(v.interval) & (inside(1, 2, v.slot) & (allowed_country(country) & last))
 }
 
