@@ -4,7 +4,7 @@ use mathlib.Core.Path.{◌≡◌, refl, sym, ap, ◌∙◌}
 use mathlib.Core.Bool.{Bool, true, false, not, ◌&&◌, and_assoc, and-true}
 use Rattle.std.specs.List.{fold}
 use Rattle.std.specs.Int.Bits.{bit_or}
-use Rattle.std.specs.Int.{w16, w32, from_le_bytes}
+use Rattle.std.specs.Int.{w16, w32, from_le_bytes, to_le_bytes}
 use Rattle.std.proofs.lemmas.Nat.{le_or_l}
 use mathlib.Core.List.{List, [], ◌∷◌, ◌++◌, append-nil}
 use native.Mathlib.Omega.{arith}
@@ -117,3 +117,15 @@ module _ (at : ℕ) (s : List ℕ) where
 
   pub four_at : from_le_bytes w32 (part at 4 s) ≡ of_le 4 at s
   four_at = omega (arith, octet 4 0 at (omega arith) (omega arith), octet 4 1 (at + 1) (omega arith) (omega arith), octet 4 2 (at + 1 + 1) (omega arith) (omega arith), octet 4 3 (at + 1 + 1 + 1) (omega arith) (omega arith))
+
+-- and the octets that std makes of them
+pub two_of : (x : ℕ) → x < 2 ^ 16 → to_le_bytes w16 x ≡ to_le 2 x
+two_of x h =
+    let b : x / 256 % 256 ≡ x / 256 = omega arith in
+    rw b refl
+
+pub four_of : (x : ℕ) → x < 2 ^ 32 → to_le_bytes w32 x ≡ to_le 4 x
+four_of x h =
+    let c : x / 65536 % 256 ≡ x / 256 / 256 % 256 = omega arith in
+    let d : x / 16777216 % 256 ≡ x / 256 / 256 / 256 = omega arith in
+    rw (c, d) refl

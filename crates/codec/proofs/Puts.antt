@@ -63,15 +63,6 @@ put_part d s e at h w =
     let n : at + length s - at ≡ length s = omega arith in
     put_over d at s _ (at + length s) h (rw (w, n, drop-drop (length s) at d)) refl
 
--- four octets are twice two
-pub four_octets : (x : ℕ) → to_le 2 (x % 65536) ++ to_le 2 (x / 65536) ≡ to_le 4 x
-four_octets x =
-    let q : x / 65536 ≡ x / 256 / 256 = omega arith in
-    let s : x % 65536 ≡ 256 * (x / 256 % 256) + x % 256 = omega arith in
-    let b : (256 * (x / 256 % 256) + x % 256) / 256 ≡ x / 256 % 256 = omega arith in
-    let a : (256 * (x / 256 % 256) + x % 256) % 256 ≡ x % 256 = omega arith in
-    rw (q, s, a, b)
-
 -- a block that is there, and one that is not
 module _ (present : Bool) where
   pub put_block : {d e : List ℕ} {at next : ℕ} (L : Layout) (id size : ℕ) (v : Values L) → present ≡ true → size ≡ 2 + length (write L v)

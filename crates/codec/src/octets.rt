@@ -80,24 +80,6 @@ pub(crate) fn put(out: &mut [u8], at: usize, x: u8) -> usize
     at + 1
 }
 
-// The two octets of a number.
-pub(crate) fn put_u16(out: &mut [u8], at: usize, x: u16) -> usize
-    requires { at + 2 ≤ length out.old }
-    ensures { Put out.old at (to_le 2 x) out.new result }
-{
-    let high = put(out, at, (x % 256) as u8);
-    put(out, high, (x / 256) as u8)
-}
-
-// The four octets of a number.
-pub(crate) fn put_u32(out: &mut [u8], at: usize, x: u32) -> usize
-    requires { at + 4 ≤ length out.old }
-    ensures { Put out.old at (to_le 4 x) out.new result }
-{
-    let high = put_u16(out, at, (x % 65536) as u16);
-    put_u16(out, high, (x / 65536) as u16)
-}
-
 // All octets of a slice.
 fn put_all(out: &mut [u8], at: usize, s: &[u8]) -> usize
     requires { at + length s.now ≤ length out.old }
@@ -106,6 +88,24 @@ fn put_all(out: &mut [u8], at: usize, s: &[u8]) -> usize
     let end = at + s.len();
     out[at..end].copy_from_slice(s);
     end
+}
+
+// The two octets of a number.
+#[tactic(auto, using(crate::proofs::Laws::two_of))]
+pub(crate) fn put_u16(out: &mut [u8], at: usize, x: u16) -> usize
+    requires { at + 2 ≤ length out.old }
+    ensures { Put out.old at (to_le 2 x) out.new result }
+{
+    put_all(out, at, &x.to_le_bytes())
+}
+
+// The four octets of a number.
+#[tactic(auto, using(crate::proofs::Laws::four_of))]
+pub(crate) fn put_u32(out: &mut [u8], at: usize, x: u32) -> usize
+    requires { at + 4 ≤ length out.old }
+    ensures { Put out.old at (to_le 4 x) out.new result }
+{
+    put_all(out, at, &x.to_le_bytes())
 }
 
 // The octets of an array: an address, a country.
