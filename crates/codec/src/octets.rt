@@ -11,13 +11,6 @@ pub(crate) fn inside(low: u8, high: u8, x: u8) -> bool
     (low <= x) & (x <= high)
 }
 
-// A place that is kept in 16 bits.
-pub(crate) fn wide(x: u16) -> usize
-    ensures { result ≡ x }
-{
-    x as usize
-}
-
 // The number of two octets.
 #[tactic(auto, using(crate::proofs::Laws::two_at))]
 pub(crate) fn u16_at(s: &[u8], at: usize) -> u16
