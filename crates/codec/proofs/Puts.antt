@@ -1,14 +1,12 @@
 -- Writing into a buffer, one piece after another.
-use Prim.Native.Nat.{ℕ, ◌+◌, ◌-◌, ◌*◌, ◌/◌, ◌%◌, ◌≤◌, ◌<◌}
+use Prim.Native.Nat.{ℕ, ◌+◌, ◌-◌, ◌≤◌, ◌<◌}
 use native.Mathlib.Omega.{arith}
 use native.Mathlib.Numerals.{add-one}
 use mathlib.Core.Path.{◌≡◌, refl, sym, ap, ◌∙◌}
 use mathlib.Core.List.{List, [], ◌∷◌, ◌++◌, append_assoc, append-nil}
-use lib.ListN.{length, take, drop, set, length-append, length-take, length-drop, take-append-drop, drop_of_length-le}
-use lib.Seq.{take_at, set_split, drop-drop, length-take-le, take-length, drop-append-add}
-use borrow.Author.Tests.{not-true, not-false}
-use mathlib.Core.Bool.{Bool, true, false, not, cond}
-use Rattle.codec.specs.Octets.{to_le}
+use lib.ListN.{length, take, drop, set, length-append, length-take, length-drop, take-append-drop}
+use lib.Seq.{take_at, set_split, drop-drop, length-take-le, drop-append-add}
+use mathlib.Core.Bool.{Bool, true, false, cond}
 use Rattle.codec.specs.Technology.{Technology, technology_id, names}
 use Rattle.codec.specs.Layout.{Layout, number, octets, counted, Values, Typed, write}
 use Rattle.codec.specs.Blocks.{Column, cell}
