@@ -5,7 +5,7 @@ ghost use Rattle.codec.specs.Message.{id_of, end_fault, body, parse, blocks_at};
 ghost use Rattle.codec.specs.Inner.Places.{head_fault, verdict, set_alone, carries_blocks, Judged};
 
 use crate::message::{CAPABILITY_RESPONSE, CONFIGURATION, assigned};
-use crate::octets::{u16_at, wide};
+use crate::octets::u16_at;
 use crate::refusal::Refusal;
 use crate::walk::{walk_capabilities, walk_configurations};
 
@@ -82,7 +82,7 @@ pub(crate) fn response_fault(m: &[u8], found: &mut [u16; 5]) -> Result<(), Refus
     let set = u16_at(m, 2);
     let view = m;
     walk_capabilities(&view, 4, set, 0, found)?;
-    end_fault(m, wide(found[4]))
+    end_fault(m, usize::from(found[4]))
 }
 
 // The first fault from the version on of a Configuration.
@@ -102,7 +102,7 @@ pub(crate) fn configuration_fault(m: &[u8], found: &mut [u16; 5]) -> Result<(), 
     }
     let view = m;
     walk_configurations(&view, 6, set, 0, found)?;
-    end_fault(m, wide(found[4]))
+    end_fault(m, usize::from(found[4]))
 }
 
 // The first fault of a message; for none, `found` has the places of the blocks of message 1 or 2.

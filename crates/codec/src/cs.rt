@@ -7,7 +7,7 @@ ghost use Rattle.codec.specs.Valid.{valid_fields};
 ghost use Rattle.codec.specs.Inner.Puts.{Put, block_if};
 ghost use Rattle.codec.specs.Inner.Places.{Roomy, layout_fault};
 
-use crate::octets::{address_at, all_zero, inside, put, put_address};
+use crate::octets::{all_zero, inside, octets_at, put, put_octets};
 use crate::refusal::Refusal;
 use crate::sizes::{block_octets, size_fault};
 use crate::technology::CS;
@@ -38,7 +38,7 @@ pub(crate) fn capability(b: &[u8]) -> CsCapability
     requires { Roomy cs_capability 2 b.now }
     ensures { result ≡ to_cs_capability (value cs_capability 2 b.now) }
 {
-    let address = address_at(b, 3);
+    let address = octets_at(b, 3);
     CsCapability {
         security_types: b[2],
         address,
@@ -69,7 +69,7 @@ pub(crate) fn configuration(b: &[u8]) -> CsConfiguration
     requires { Roomy cs_configuration 2 b.now }
     ensures { result ≡ to_cs_configuration (value cs_configuration 2 b.now) }
 {
-    let address = address_at(b, 3);
+    let address = octets_at(b, 3);
     CsConfiguration {
         security_level: b[2],
         address,
@@ -112,5 +112,5 @@ pub(crate) fn put_block(
     let size = put(out, at, CS);
     let fields = put(out, size, 9);
     let next = put(out, fields, security);
-    put_address(out, next, &address)
+    put_octets(out, next, &address)
 }

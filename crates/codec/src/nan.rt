@@ -7,7 +7,7 @@ ghost use Rattle.codec.specs.Valid.{valid_fields};
 ghost use Rattle.codec.specs.Inner.Puts.{Put, block_if};
 ghost use Rattle.codec.specs.Inner.Places.{Roomy, layout_fault};
 
-use crate::octets::{all_zero, inside, name_at, put, put_name, zero_from};
+use crate::octets::{all_zero, inside, padded_at, put, put_first, zero_from};
 use crate::refusal::Refusal;
 use crate::sizes::{block_octets, size_fault};
 use crate::technology::NAN;
@@ -100,7 +100,7 @@ pub(crate) fn configuration(b: &[u8]) -> NanConfiguration
     let n = b[2] as usize;
     let role = 3 + n;
     let periodic = role + 1;
-    let name = name_at(b, 3, n);
+    let name = padded_at(b, 3, n);
     NanConfiguration {
         name_length: b[2],
         name,
@@ -164,7 +164,7 @@ pub(crate) fn put_configuration(
     let size = put(out, at, NAN);
     let fields = put(out, size, 5 + v.name_length);
     let octets = put(out, fields, v.name_length);
-    let role = put_name(out, octets, &v.name, n);
+    let role = put_first(out, octets, &v.name, n);
     let periodic = put(out, role, v.role);
     put(out, periodic, v.periodic)
 }

@@ -106,21 +106,14 @@ pub fn rssi_block(m: &[u8], at: u32) -> Rssi
     rssi::block(&m[i..])
 }
 
-// A place that is kept in 16 bits.
-pub(crate) fn wide_place(place: u16) -> u32
-    ensures { result ≡ place }
-{
-    place as u32
-}
-
 // What the blocks of message 1 at these places say.
 pub(crate) fn capability_at(m: &[u8], places: &[u16; 5]) -> Capability
     ensures { result ≡ column_at capabilities m.now places.now }
 {
-    let uwb = uwb_capability(m, wide_place(places[0]));
-    let cs = cs_capability(m, wide_place(places[1]));
-    let nan = nan_capability(m, wide_place(places[2]));
-    let rssi = rssi_block(m, wide_place(places[3]));
+    let uwb = uwb_capability(m, u32::from(places[0]));
+    let cs = cs_capability(m, u32::from(places[1]));
+    let nan = nan_capability(m, u32::from(places[2]));
+    let rssi = rssi_block(m, u32::from(places[3]));
     Capability { uwb, cs, nan, rssi }
 }
 
@@ -128,9 +121,9 @@ pub(crate) fn capability_at(m: &[u8], places: &[u16; 5]) -> Capability
 pub(crate) fn configuration_at(m: &[u8], places: &[u16; 5]) -> Configuration
     ensures { result ≡ column_at configurations m.now places.now }
 {
-    let nan = nan_settings(m, wide_place(places[2]));
-    let uwb = uwb_settings(m, wide_place(places[0]));
-    let cs = cs_settings(m, wide_place(places[1]));
-    let rssi = rssi_block(m, wide_place(places[3]));
+    let nan = nan_settings(m, u32::from(places[2]));
+    let uwb = uwb_settings(m, u32::from(places[0]));
+    let cs = cs_settings(m, u32::from(places[1]));
+    let rssi = rssi_block(m, u32::from(places[3]));
     Configuration { uwb, cs, nan, rssi }
 }

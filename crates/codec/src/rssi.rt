@@ -7,7 +7,7 @@ ghost use Rattle.codec.specs.Valid.{valid_fields};
 ghost use Rattle.codec.specs.Inner.Puts.{Put, block_if};
 ghost use Rattle.codec.specs.Inner.Places.{Roomy, layout_fault};
 
-use crate::octets::{address_at, all_zero, put, put_address};
+use crate::octets::{all_zero, octets_at, put, put_octets};
 use crate::refusal::Refusal;
 use crate::sizes::size_fault;
 use crate::technology::RSSI;
@@ -30,7 +30,7 @@ pub(crate) fn block(b: &[u8]) -> Rssi
     requires { Roomy rssi_block 2 b.now }
     ensures { result ≡ to_rssi (value rssi_block 2 b.now) }
 {
-    let address = address_at(b, 2);
+    let address = octets_at(b, 2);
     Rssi { address }
 }
 
@@ -54,5 +54,5 @@ pub(crate) fn put_block(present: bool, v: Rssi, out: &mut [u8], at: usize) -> us
     }
     let size = put(out, at, RSSI);
     let fields = put(out, size, 8);
-    put_address(out, fields, &v.address)
+    put_octets(out, fields, &v.address)
 }

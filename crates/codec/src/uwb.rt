@@ -1,5 +1,5 @@
 // UWB: its two blocks. Channel, preamble index and config ID are kinds of their own, and so are sets of them.
-ghost use Rattle.std.specs.Prelude.{◌≡◌, cond, ◌+◌, ◌≤◌, length, get_or, drop};
+ghost use Rattle.std.specs.Prelude.{◌≡◌, cond, ◌+◌, ◌≤◌, length, get_or};
 ghost use Rattle.codec.specs.Octets.{all_zero};
 ghost use Rattle.codec.specs.Layout.{country, two_letters, spelled, inside, test, zeroed, write, value, fault};
 ghost use Rattle.codec.specs.Blocks.{interval, allowed_key_length, uwb_capability, uwb_configuration, uwb_after_key};
@@ -9,8 +9,8 @@ ghost use Rattle.codec.specs.Inner.Puts.{Put, block_if, set_octets, before_key, 
 ghost use Rattle.codec.specs.Inner.Places.{Roomy, layout_fault};
 
 use crate::octets::{
-    all_zero, inside, key_at, pair_at, put, put_key, put_pair, put_u16, put_u32, u16_at, u32_at,
-    zero_from,
+    all_zero, inside, octets_at, padded_at, put, put_first, put_octets, put_u16, put_u32, u16_at,
+    u32_at, zero_from,
 };
 use crate::refusal::Refusal;
 use crate::sizes::{block_octets, size_fault};
@@ -129,7 +129,7 @@ pub(crate) fn capability(b: &[u8]) -> UwbCapability
     requires { Roomy uwb_capability 2 b.now }
     ensures { result ≡ to_uwb_capability (value uwb_capability 2 b.now) }
 {
-    let address = pair_at(b, 2);
+    let address = octets_at(b, 2);
     UwbCapability {
         address,
         channels: Channels(u32_at(b, 4)),
@@ -148,7 +148,7 @@ fn after_key_fault(b: &[u8], at: usize) -> Result<(), Refusal>
 {
     let role = at + 2;
     let mode = role + 1;
-    if !allowed_country(pair_at(b, at)) {
+    if !allowed_country(octets_at(b, at)) {
         return Err(Refusal::NotAllowed);
     }
     if !inside(1, 2, b[role]) {
@@ -198,9 +198,9 @@ pub(crate) fn configuration(b: &[u8]) -> UwbConfiguration
     let after = 15 + k;
     let role = after + 2;
     let mode = role + 1;
-    let address = pair_at(b, 2);
-    let key = key_at(b, 15, k);
-    let country = pair_at(b, after);
+    let address = octets_at(b, 2);
+    let key = padded_at(b, 15, k);
+    let country = octets_at(b, after);
     UwbConfiguration {
         address,
         session_id: u32_at(b, 4),
@@ -251,7 +251,7 @@ pub(crate) fn put_capability(present: bool, v: UwbCapability, out: &mut [u8], at
     }
     let size = put(out, at, UWB);
     let fields = put(out, size, 20);
-    let channels = put_pair(out, fields, &v.address);
+    let channels = put_octets(out, fields, &v.address);
     let interval = put_sets(v, out, channels);
     let slot = put_u16(out, interval, v.shortest_interval);
     let roles = put(out, slot, v.shortest_slot);
@@ -268,13 +268,6 @@ fn is_zero_key(key: &[u8; 32]) -> bool
     ensures { result ≡ all_zero key.now }
 {
     all_zero(key)
-}
-
-fn is_zero_key_from(key: &[u8; 32], from: usize) -> bool
-    requires { from ≤ 32 }
-    ensures { result ≡ all_zero (drop from key.now) }
-{
-    zero_from(key, from)
 }
 
 fn is_zero_configuration(v: UwbConfiguration) -> bool
@@ -298,7 +291,7 @@ pub(crate) fn valid_configuration(present: bool, v: UwbConfiguration) -> bool
     }
     let country = v.country;
     let k = v.key_length as usize;
-    let last = inside(1, 2, v.role) & (inside(1, 2, v.mode) & is_zero_key_from(&v.key, k));
+    let last = inside(1, 2, v.role) & (inside(1, 2, v.mode) & zero_from(&v.key, k));
     allowed_interval(v.interval) & (inside(1, 2, v.slot) & (allowed_country(country) & last))
 }
 
@@ -320,7 +313,7 @@ fn put_after_key(v: UwbConfiguration, out: &mut [u8], at: usize) -> usize
     requires { at + 4 ≤ length out.old }
     ensures { Put out.old at (write uwb_after_key (after_key v)) out.new result × (length v.country ≡ 2) }
 {
-    let role = put_pair(out, at, &v.country);
+    let role = put_octets(out, at, &v.country);
     let mode = put(out, role, v.role);
     put(out, mode, v.mode)
 }
@@ -340,9 +333,9 @@ pub(crate) fn put_configuration(
     let k = v.key_length as usize;
     let size = put(out, at, UWB);
     let fields = put(out, size, 19 + v.key_length);
-    let session_id = put_pair(out, fields, &v.address);
+    let session_id = put_octets(out, fields, &v.address);
     let key_length = put_before_key(v, out, session_id);
     let octets = put(out, key_length, v.key_length);
-    let country = put_key(out, octets, &v.key, k);
+    let country = put_first(out, octets, &v.key, k);
     put_after_key(v, out, country)
 }

@@ -25,4 +25,4 @@ returns-in_err-walk_configurations c = rw (raised _ c.from_residual.ensures.1) (
 
 pub returns : goal.returns
 returns c = body_end _ (cc) (row 2) (ap row c.requires.2) c.if-m-lt6.false (eq-eqb _ _ (sym c.u16_at-set.ensures ∙ c.if-set-u16_at.false ∙ c.u16_at.ensures)) configurations refl c.in_ok-walk_configurations.ensures refl
-    (rw c.wide.ensures at c.end_fault.ensures)
+    (rw c.from.ensures at c.end_fault.ensures)

@@ -21,4 +21,4 @@ returns-in_err-walk_capabilities c = rw (raised _ c.from_residual.ensures.1) (bo
 
 pub returns : goal.returns
 returns c = body_end _ (cc) (row 1) (ap row c.requires.2) c.if-m-lt4.false refl capabilities refl c.in_ok-walk_capabilities.ensures refl
-    (rw c.wide.ensures at c.end_fault.ensures)
+    (rw c.from.ensures at c.end_fault.ensures)

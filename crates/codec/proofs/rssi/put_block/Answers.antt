@@ -10,5 +10,5 @@ pub returns-then-not-present : goal.returns-then-not-present
 returns-then-not-present c = put_absent c.args.present c.args.out.now c.args.at _ rssi_block 3 (of_rssi c.args.v) c.if-not-present.true c.requires
 
 pub returns : goal.returns
-returns c = put_block c.args.present rssi_block 3 8 (of_rssi c.args.v) c.if-not-present.false (omega (arith, length-append c.args.v.address [], c.put_address.ensures.1))
-    (put_then c.put-size.ensures (put_then c.put-fields.ensures (put_last c.put_address.ensures.0)))
+returns c = put_block c.args.present rssi_block 3 8 (of_rssi c.args.v) c.if-not-present.false (omega (arith, length-append c.args.v.address [], c.put_octets.ensures.1))
+    (put_then c.put-size.ensures (put_then c.put-fields.ensures (put_last c.put_octets.ensures.0)))

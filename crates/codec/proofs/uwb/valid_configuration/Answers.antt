@@ -1,3 +1,4 @@
+use native.Mathlib.Omega.{arith}
 use Rattle.codec.proofs.Layouts.{bounded_le}
 use Rattle.codec.specs.Layout.{one_of}
 use mathlib.Core.List.{[], ◌∷◌}
@@ -8,9 +9,9 @@ use Rattle.codec.proofs.uwb.valid_configuration.Goals as goal
 pub returns-then-not-present : goal.returns-then-not-present
 returns-then-not-present c = c.is_zero_configuration.ensures ∙ simp c.if-not-present.true
 
-pub is_zero_key_from-requires : goal.is_zero_key_from-requires
-is_zero_key_from-requires c = bounded_le (one_of (8 ∷ 16 ∷ 32 ∷ [])) 32 _ refl (sym c.allowed_key_length.ensures ∙ c.if-not-allowed_key_length.false)
+pub zero_from-requires : goal.zero_from-requires
+zero_from-requires c = omega (arith, bounded_le (one_of (8 ∷ 16 ∷ 32 ∷ [])) 32 _ refl (sym c.allowed_key_length.ensures ∙ c.if-not-allowed_key_length.false))
 
 pub returns : goal.returns
-returns c = rw (c.allowed_interval.ensures, c.inside-3.ensures, c.allowed_country.ensures, c.inside.ensures, c.inside-2.ensures, c.is_zero_key_from.ensures)
+returns c = rw (c.allowed_interval.ensures, c.inside-3.ensures, c.allowed_country.ensures, c.inside.ensures, c.inside-2.ensures, c.zero_from.ensures)
     (simp (c.if-not-present.false, sym c.allowed_key_length.ensures ∙ c.if-not-allowed_key_length.false, and-true, and_assoc))
