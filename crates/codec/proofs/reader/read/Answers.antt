@@ -1,4 +1,3 @@
-use Rattle.codec.specs.Octets.{Octets}
 use Rattle.codec.proofs.FoundLemmas.{reads_refused}
 use mathlib.Core.Path.{◌∙◌}
 use native.Mathlib.Omega.{arith}
