@@ -40,3 +40,10 @@ pub trait Column: Copy {
     fn rssi(&self) -> &Rssi
         ensures { InColumn column (kept self.now) rssi rssi_block (of_rssi result.now) };
 }
+
+// All fields zero.
+pub fn zero<C: Column>() -> C
+    ensures { C.kept result ≡ blank C.column }
+{
+    C::zero()
+}

@@ -25,7 +25,7 @@ mod walker;
 mod writer;
 
 pub use checks::MESSAGE_LIMIT;
-pub use columns::Column;
+pub use columns::zero;
 pub use cs::{CsCapability, CsConfiguration};
 pub use hearing::hear;
 pub use listing::block;
