@@ -65,7 +65,7 @@ roomy_from (number x w t ∷ L) at s h = omega (arith, roomy_from L (at + w) s h
 roomy_from (octets x n t ∷ L) at s h = omega (arith, roomy_from L (at + n) s h)
 roomy_from (counted y x t c ∷ L) at s h = omega (arith, roomy_from L (at + 1 + get_or s at 0) s h.1)
 
-is_roomy : (L : Layout) (at : ℕ) (s : List ℕ) → roomy L at s ≡ true → Roomy L at s
+pub is_roomy : (L : Layout) (at : ℕ) (s : List ℕ) → roomy L at s ≡ true → Roomy L at s
 is_roomy [] at s e = leb-true at (length s) e
 is_roomy (number x w t ∷ L) at s e = is_roomy L (at + w) s e
 is_roomy (octets x n t ∷ L) at s e = is_roomy L (at + n) s e

@@ -2,17 +2,17 @@
 ghost use Rattle.std.specs.Prelude.{◌≡◌};
 ghost use Rattle.codec.specs.Blocks.{capabilities, configurations};
 ghost use Rattle.codec.specs.Refusal.{number_of};
-ghost use Rattle.codec.specs.Records.{blank, message_id, refused};
+ghost use Rattle.codec.specs.Records.{message_id, refused};
 
+use crate::columns::Column;
 use crate::cs::{CsCapability, CsConfiguration};
+use crate::fields::Fields;
 use crate::message::{CAPABILITY_REQUEST, CONFIGURATION_RESPONSE, STOP, STOP_RESPONSE};
 use crate::nan::{NanCapability, NanConfiguration};
+use crate::places::fields_at;
 use crate::refusal::Refusal;
 use crate::rssi::Rssi;
-use crate::uwb::{
-    Channel, Channels, ConfigId, ConfigIds, PreambleIndex, PreambleIndexes, UwbCapability,
-    UwbConfiguration,
-};
+use crate::uwb::{UwbCapability, UwbConfiguration};
 
 // What the blocks of message 1 say. An absent technology's fields are zero.
 #[repr(C)]
@@ -100,64 +100,95 @@ pub(crate) fn message_id(message: SetMessage) -> u8
     }
 }
 
-// All fields zero.
-pub fn zero_capability() -> Capability
-    ensures { result ≡ blank capabilities }
-{
-    Capability {
-        uwb: UwbCapability {
-            address: [0; 2],
-            channels: Channels(0),
-            preamble_indexes: PreambleIndexes(0),
-            config_ids: ConfigIds(0),
-            shortest_interval: 0,
-            shortest_slot: 0,
-            roles: 0,
-        },
-        cs: CsCapability {
-            security_types: 0,
-            address: [0; 6],
-        },
-        nan: NanCapability {
-            features: 0,
-            periodic: 0,
-            bandwidth: 0,
-            receive_chains: 0,
-        },
-        rssi: Rssi { address: [0; 6] },
+impl Column for Capability {
+    type Uwb = UwbCapability;
+
+    type Cs = CsCapability;
+
+    type Nan = NanCapability;
+
+    ghost column = { capabilities };
+
+    ghost kept = { λ c. c };
+
+    fn zero() -> Capability {
+        Capability {
+            uwb: UwbCapability::zero(),
+            cs: CsCapability::zero(),
+            nan: NanCapability::zero(),
+            rssi: Rssi::zero(),
+        }
+    }
+
+    fn read(m: &[u8], places: &[u16; 5]) -> Capability {
+        Capability {
+            uwb: fields_at(m, u32::from(places[0])),
+            cs: fields_at(m, u32::from(places[1])),
+            nan: fields_at(m, u32::from(places[2])),
+            rssi: fields_at(m, u32::from(places[3])),
+        }
+    }
+
+    fn uwb(&self) -> &UwbCapability {
+        &self.uwb
+    }
+
+    fn cs(&self) -> &CsCapability {
+        &self.cs
+    }
+
+    fn nan(&self) -> &NanCapability {
+        &self.nan
+    }
+
+    fn rssi(&self) -> &Rssi {
+        &self.rssi
     }
 }
 
-// All fields zero.
-pub fn zero_configuration() -> Configuration
-    ensures { result ≡ blank configurations }
-{
-    Configuration {
-        uwb: UwbConfiguration {
-            address: [0; 2],
-            session_id: 0,
-            config_id: ConfigId(0),
-            channel: Channel(0),
-            preamble_index: PreambleIndex(0),
-            interval: 0,
-            slot: 0,
-            key_length: 0,
-            key: [0; 32],
-            country: [0; 2],
-            role: 0,
-            mode: 0,
-        },
-        cs: CsConfiguration {
-            security_level: 0,
-            address: [0; 6],
-        },
-        nan: NanConfiguration {
-            name_length: 0,
-            name: [0; 64],
-            role: 0,
-            periodic: 0,
-        },
-        rssi: Rssi { address: [0; 6] },
+impl Column for Configuration {
+    type Uwb = UwbConfiguration;
+
+    type Cs = CsConfiguration;
+
+    type Nan = NanConfiguration;
+
+    ghost column = { configurations };
+
+    ghost kept = { λ c. c };
+
+    fn zero() -> Configuration {
+        Configuration {
+            uwb: UwbConfiguration::zero(),
+            cs: CsConfiguration::zero(),
+            nan: NanConfiguration::zero(),
+            rssi: Rssi::zero(),
+        }
+    }
+
+    fn read(m: &[u8], places: &[u16; 5]) -> Configuration {
+        Configuration {
+            uwb: fields_at(m, u32::from(places[0])),
+            cs: fields_at(m, u32::from(places[1])),
+            nan: fields_at(m, u32::from(places[2])),
+            rssi: fields_at(m, u32::from(places[3])),
+        }
+    }
+
+    fn uwb(&self) -> &UwbConfiguration {
+        &self.uwb
+    }
+
+    fn cs(&self) -> &CsConfiguration {
+        &self.cs
+    }
+
+    fn nan(&self) -> &NanConfiguration {
+        &self.nan
+    }
+
+    fn rssi(&self) -> &Rssi {
+        &self.rssi
     }
 }
 
@@ -165,8 +196,8 @@ pub fn zero_configuration() -> Configuration
 pub fn refused(refusal: Refusal) -> Reading
     ensures { result ≡ refused (number_of refusal) }
 {
-    let capability = zero_capability();
-    let configuration = zero_configuration();
+    let capability = Capability::zero();
+    let configuration = Configuration::zero();
     Reading {
         refusal: u8::from(refusal),
         value: Record {

@@ -25,12 +25,12 @@ pub fn start(profile: Record, replies: u8) -> Started
 {
     let response = (profile.id == CAPABILITY_RESPONSE)
         & codec::valid_response(profile.set, profile.capability);
-    if !(response & codec::is_zero_configuration(profile.configuration) & (replies < 3)) {
+    if !(response & codec::is_zero(&profile.configuration) & (replies < 3)) {
         return Started {
             session: fresh(Profile {
                 set: 0,
                 replies: 0,
-                capability: codec::zero_capability(),
+                capability: codec::zero(),
             }),
             refusal: NOT_VALID,
         };
@@ -92,13 +92,13 @@ pub fn message(s: Session, octets: &[u8], out: &mut [u8]) -> Step
         };
     }
     if has(answer.set, UWB) {
-        session.uwb = ranging_uwb(codec::uwb_settings(octets, heard.uwb));
+        session.uwb = ranging_uwb(codec::fields_at(octets, heard.uwb));
     }
     if has(answer.set, NAN) {
-        session.nan = ranging_nan(codec::nan_settings(octets, heard.nan));
+        session.nan = ranging_nan(codec::fields_at(octets, heard.nan));
     }
     if has(answer.set, RSSI) {
-        session.rssi = ranging_rssi(codec::rssi_block(octets, heard.rssi));
+        session.rssi = ranging_rssi(codec::fields_at(octets, heard.rssi));
     }
     if has(answer.stopped, UWB) {
         session.uwb = idle_uwb();

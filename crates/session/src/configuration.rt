@@ -19,7 +19,7 @@ fn eligible_uwb(s: Session, h: Heard, m: &[u8]) -> bool
     if !(named & (s.mark == 0)) {
         return false;
     }
-    within_uwb(s.profile.capability.uwb, codec::uwb_settings(m, h.uwb))
+    within_uwb(s.profile.capability.uwb, codec::fields_at(m, h.uwb))
 }
 
 fn eligible_cs(s: Session, h: Heard, m: &[u8]) -> bool
@@ -29,7 +29,7 @@ fn eligible_cs(s: Session, h: Heard, m: &[u8]) -> bool
     if !named {
         return false;
     }
-    within_cs(s.profile.capability.cs, codec::cs_settings(m, h.cs))
+    within_cs(s.profile.capability.cs, codec::fields_at(m, h.cs))
 }
 
 fn eligible_nan(s: Session, h: Heard, m: &[u8]) -> bool
@@ -39,7 +39,7 @@ fn eligible_nan(s: Session, h: Heard, m: &[u8]) -> bool
     if !named {
         return false;
     }
-    within_nan(s.profile.capability.nan, codec::nan_settings(m, h.nan))
+    within_nan(s.profile.capability.nan, codec::fields_at(m, h.nan))
 }
 
 #[tactic(auto, unfolding(crate::specs::Rules::eligible))]

@@ -1,7 +1,7 @@
 use native.Mathlib.Omega.{arith}
 use Rattle.codec.proofs.Outcomes.{raised}
 use Rattle.codec.specs.Blocks.{capabilities}
-use Rattle.codec.proofs.WalkTurns.{none_left, stops_at_head, two, under_16, stops_at_block, less, next_inside, next_met, goes_on}
+use Rattle.codec.proofs.WalkTurns.{none_left, stops_at_head, under_16, stops_at_block, less, next_inside, next_met, goes_on}
 use Rattle.codec.proofs.walk.+walk_capabilities.Goals as goal
 
 pub returns-then-left-eq0 : goal.returns-then-left-eq0
