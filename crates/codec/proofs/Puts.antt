@@ -7,7 +7,6 @@ use mathlib.Core.List.{List, [], ◌∷◌, ◌++◌, append_assoc, append-nil}
 use lib.ListN.{length, take, drop, set, length-append, length-take, length-drop, take-append-drop}
 use lib.Seq.{take_at, set_split, drop-drop, length-take-le, drop-append-add}
 use mathlib.Core.Bool.{Bool, true, false, cond}
-use Rattle.codec.specs.Octets.{to_le}
 use Rattle.codec.specs.Technology.{Technology, technology_id, names}
 use Rattle.codec.specs.Layout.{Layout, Values, write, zeroed}
 use Rattle.codec.specs.Blocks.{Column, cell}
