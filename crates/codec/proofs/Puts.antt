@@ -1,5 +1,5 @@
 -- Writing into a buffer, one piece after another.
-use Prim.Native.Nat.{ℕ, ◌+◌, ◌-◌, ◌*◌, ◌/◌, ◌%◌, ◌≤◌, ◌<◌}
+use Prim.Native.Nat.{ℕ, ◌+◌, ◌-◌, ◌≤◌, ◌<◌}
 use native.Mathlib.Omega.{arith}
 use native.Mathlib.Numerals.{add-one}
 use mathlib.Core.Path.{◌≡◌, refl, sym, ap, subst, ◌∙◌}
@@ -7,7 +7,6 @@ use mathlib.Core.List.{List, [], ◌∷◌, ◌++◌, append_assoc, append-nil}
 use lib.ListN.{length, take, drop, set, length-append, length-take, length-drop, take-append-drop}
 use lib.Seq.{take_at, set_split, drop-drop, length-take-le, drop-append-add}
 use mathlib.Core.Bool.{Bool, true, false, cond}
-use Rattle.codec.specs.Octets.{to_le}
 use Rattle.codec.specs.Technology.{Technology, technology_id, names}
 use Rattle.codec.specs.Layout.{Layout, Values, write, zeroed}
 use Rattle.codec.specs.Blocks.{Column, cell}
@@ -62,15 +61,6 @@ unfolding over
 put_part d s e at h w =
     let n : at + length s - at ≡ length s = omega arith in
     put_over d at s _ (at + length s) h (rw (w, n, drop-drop (length s) at d)) refl
-
--- four octets are twice two
-pub four_octets : (x : ℕ) → to_le 2 (x % 65536) ++ to_le 2 (x / 65536) ≡ to_le 4 x
-four_octets x =
-    let q : x / 65536 ≡ x / 256 / 256 = omega arith in
-    let s : x % 65536 ≡ 256 * (x / 256 % 256) + x % 256 = omega arith in
-    let b : (256 * (x / 256 % 256) + x % 256) / 256 ≡ x / 256 % 256 = omega arith in
-    let a : (256 * (x / 256 % 256) + x % 256) % 256 ≡ x % 256 = omega arith in
-    rw (q, s, a, b)
 
 -- a block that is there, and one that is not
 module _ (present : Bool) where

@@ -5,7 +5,7 @@ ghost use Rattle.codec.specs.Message.{id_of, end_fault, body, parse, blocks_at};
 ghost use Rattle.codec.specs.Inner.Places.{number_in, head_fault, set_alone, carries_blocks, Judged};
 
 use crate::message::{CAPABILITY_RESPONSE, CONFIGURATION, assigned};
-use crate::octets::{u16_at, wide};
+use crate::octets::u16_at;
 use crate::refusal::{ENDS_EARLY, LEFT_OVER, RESERVED_ID, SETS_DIFFER, TOO_LONG, WRONG_VERSION};
 use crate::walk::{walk_capabilities, walk_configurations};
 
@@ -85,7 +85,7 @@ pub(crate) fn response_fault(m: &[u8], found: &mut [u16; 5]) -> u8
     if fault != 0 {
         return fault;
     }
-    end_fault(m, wide(found[4]))
+    end_fault(m, usize::from(found[4]))
 }
 
 // The first fault from the version on of a Configuration.
@@ -108,7 +108,7 @@ pub(crate) fn configuration_fault(m: &[u8], found: &mut [u16; 5]) -> u8
     if fault != 0 {
         return fault;
     }
-    end_fault(m, wide(found[4]))
+    end_fault(m, usize::from(found[4]))
 }
 
 // The first fault of a message; for none it is 0, and `found` has the places of the blocks of message 1 or 2.

@@ -6,7 +6,7 @@ ghost use Rattle.codec.specs.Records.{to_cs_capability, to_cs_configuration, of_
 ghost use Rattle.codec.specs.Inner.Places.{number_in, layout_fault};
 
 use crate::fields::Fields;
-use crate::octets::{address_at, all_zero, inside, put, put_address};
+use crate::octets::{all_zero, inside, octets_at, put, put_octets};
 use crate::refusal::NOT_ALLOWED;
 use crate::sizes::{block_octets, size_fault};
 
@@ -74,7 +74,7 @@ impl Fields for CsCapability {
     }
 
     fn read(b: &[u8]) -> CsCapability {
-        let address = address_at(b, 3);
+        let address = octets_at(b, 3);
         CsCapability {
             security_types: b[2],
             address,
@@ -95,7 +95,7 @@ impl Fields for CsCapability {
 
     fn put_fields(&self, out: &mut [u8], at: usize) -> usize {
         let address = put(out, at, self.security_types);
-        put_address(out, address, &self.address)
+        put_octets(out, address, &self.address)
     }
 }
 
@@ -118,7 +118,7 @@ impl Fields for CsConfiguration {
     }
 
     fn read(b: &[u8]) -> CsConfiguration {
-        let address = address_at(b, 3);
+        let address = octets_at(b, 3);
         CsConfiguration {
             security_level: b[2],
             address,
@@ -139,6 +139,6 @@ impl Fields for CsConfiguration {
 
     fn put_fields(&self, out: &mut [u8], at: usize) -> usize {
         let address = put(out, at, self.security_level);
-        put_address(out, address, &self.address)
+        put_octets(out, address, &self.address)
     }
 }

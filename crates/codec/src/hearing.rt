@@ -6,7 +6,7 @@ ghost use Rattle.codec.specs.Inner.Places.{Hears};
 use crate::checks::{configuration_fault, head_fault, response_fault, set_fault};
 use crate::message::{CAPABILITY_RESPONSE, CONFIGURATION};
 use crate::octets::u16_at;
-use crate::places::{NO_PLACE, wide_place};
+use crate::places::NO_PLACE;
 use crate::records::{Heard, unheard};
 use crate::technology::SET_LIMIT;
 
@@ -29,10 +29,10 @@ fn heard(id: u8, set: u16) -> Heard
 fn heard_at(set: u16, places: &[u16; 5]) -> Heard
     ensures { result ≡ record { refusal = 0; id = 2; set = set; uwb = get_or places.now 0 0; cs = get_or places.now 1 0; nan = get_or places.now 2 0; rssi = get_or places.now 3 0 } }
 {
-    let uwb = wide_place(places[0]);
-    let cs = wide_place(places[1]);
-    let nan = wide_place(places[2]);
-    let rssi = wide_place(places[3]);
+    let uwb = u32::from(places[0]);
+    let cs = u32::from(places[1]);
+    let nan = u32::from(places[2]);
+    let rssi = u32::from(places[3]);
     Heard {
         refusal: 0,
         id: CONFIGURATION,

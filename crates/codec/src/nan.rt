@@ -6,7 +6,7 @@ ghost use Rattle.codec.specs.Records.{to_nan_capability, to_nan_configuration, o
 ghost use Rattle.codec.specs.Inner.Places.{number_in, layout_fault};
 
 use crate::fields::Fields;
-use crate::octets::{all_zero, inside, name_at, put, put_name, zero_from};
+use crate::octets::{all_zero, inside, padded_at, put, put_first, zero_from};
 use crate::refusal::{BLOCK_TOO_SMALL, NOT_ALLOWED};
 use crate::sizes::{block_octets, size_fault};
 
@@ -163,7 +163,7 @@ impl Fields for NanConfiguration {
         let n = b[2] as usize;
         let role = 3 + n;
         let periodic = role + 1;
-        let name = name_at(b, 3, n);
+        let name = padded_at(b, 3, n);
         NanConfiguration {
             name_length: b[2],
             name,
@@ -191,7 +191,7 @@ impl Fields for NanConfiguration {
     fn put_fields(&self, out: &mut [u8], at: usize) -> usize {
         let n = self.name_length as usize;
         let octets = put(out, at, self.name_length);
-        let role = put_name(out, octets, &self.name, n);
+        let role = put_first(out, octets, &self.name, n);
         let periodic = put(out, role, self.role);
         put(out, periodic, self.periodic)
     }

@@ -29,10 +29,3 @@ pub fn fields_at<F: Fields>(m: &[u8], at: u32) -> F
     }
     F::read(block)
 }
-
-// A place that is kept in 16 bits.
-pub(crate) fn wide_place(place: u16) -> u32
-    ensures { result ≡ place }
-{
-    place as u32
-}

@@ -8,7 +8,7 @@ use crate::cs::{CsCapability, CsConfiguration};
 use crate::fields::Fields;
 use crate::message::{CAPABILITY_REQUEST, CONFIGURATION_RESPONSE, STOP, STOP_RESPONSE};
 use crate::nan::{NanCapability, NanConfiguration};
-use crate::places::{fields_at, wide_place};
+use crate::places::fields_at;
 use crate::rssi::Rssi;
 use crate::uwb::{UwbCapability, UwbConfiguration};
 
@@ -130,10 +130,10 @@ impl Column for Capability {
 
     fn read(m: &[u8], places: &[u16; 5]) -> Capability {
         Capability {
-            uwb: fields_at(m, wide_place(places[0])),
-            cs: fields_at(m, wide_place(places[1])),
-            nan: fields_at(m, wide_place(places[2])),
-            rssi: fields_at(m, wide_place(places[3])),
+            uwb: fields_at(m, u32::from(places[0])),
+            cs: fields_at(m, u32::from(places[1])),
+            nan: fields_at(m, u32::from(places[2])),
+            rssi: fields_at(m, u32::from(places[3])),
         }
     }
 
@@ -176,10 +176,10 @@ impl Column for Configuration {
 
     fn read(m: &[u8], places: &[u16; 5]) -> Configuration {
         Configuration {
-            uwb: fields_at(m, wide_place(places[0])),
-            cs: fields_at(m, wide_place(places[1])),
-            nan: fields_at(m, wide_place(places[2])),
-            rssi: fields_at(m, wide_place(places[3])),
+            uwb: fields_at(m, u32::from(places[0])),
+            cs: fields_at(m, u32::from(places[1])),
+            nan: fields_at(m, u32::from(places[2])),
+            rssi: fields_at(m, u32::from(places[3])),
         }
     }
 

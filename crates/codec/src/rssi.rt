@@ -5,7 +5,7 @@ ghost use Rattle.codec.specs.Records.{to_rssi, of_rssi};
 ghost use Rattle.codec.specs.Inner.Places.{number_in, layout_fault};
 
 use crate::fields::Fields;
-use crate::octets::{address_at, all_zero, put_address};
+use crate::octets::{all_zero, octets_at, put_octets};
 use crate::sizes::size_fault;
 
 #[repr(C)]
@@ -38,7 +38,7 @@ impl Fields for Rssi {
     }
 
     fn read(b: &[u8]) -> Rssi {
-        let address = address_at(b, 2);
+        let address = octets_at(b, 2);
         Rssi { address }
     }
 
@@ -55,6 +55,6 @@ impl Fields for Rssi {
     }
 
     fn put_fields(&self, out: &mut [u8], at: usize) -> usize {
-        put_address(out, at, &self.address)
+        put_octets(out, at, &self.address)
     }
 }

@@ -1,5 +1,5 @@
 // UWB: its two blocks. Channel, preamble index and config ID are kinds of their own, and so are sets of them.
-ghost use Rattle.std.specs.Prelude.{◌≡◌, ◌+◌, ◌≤◌, length, get_or, drop};
+ghost use Rattle.std.specs.Prelude.{◌≡◌, ◌+◌, ◌≤◌, length, get_or};
 ghost use Rattle.codec.specs.Octets.{all_zero};
 ghost use Rattle.codec.specs.Layout.{country, two_letters, spelled, inside, test, write, fault};
 ghost use Rattle.codec.specs.Blocks.{interval, allowed_key_length, uwb_capability, uwb_configuration, uwb_after_key};
@@ -9,8 +9,8 @@ ghost use Rattle.codec.specs.Inner.Places.{number_in, layout_fault};
 
 use crate::fields::Fields;
 use crate::octets::{
-    all_zero, inside, key_at, pair_at, put, put_key, put_pair, put_u16, put_u32, u16_at, u32_at,
-    zero_from,
+    all_zero, inside, octets_at, padded_at, put, put_first, put_octets, put_u16, put_u32, u16_at,
+    u32_at, zero_from,
 };
 use crate::refusal::{BLOCK_TOO_SMALL, NOT_ALLOWED};
 use crate::sizes::{block_octets, size_fault};
@@ -134,7 +134,7 @@ fn after_key_fault(b: &[u8], at: usize) -> u8
 {
     let role = at + 2;
     let mode = role + 1;
-    if !allowed_country(pair_at(b, at)) {
+    if !allowed_country(octets_at(b, at)) {
         return NOT_ALLOWED;
     }
     if !inside(1, 2, b[role]) {
@@ -201,13 +201,6 @@ fn is_zero_key(key: &[u8; 32]) -> bool
     all_zero(key)
 }
 
-fn is_zero_key_from(key: &[u8; 32], from: usize) -> bool
-    requires { from ≤ 32 }
-    ensures { result ≡ all_zero (drop from key.now) }
-{
-    zero_from(key, from)
-}
-
 // Writes the fields after the address and before the key.
 fn put_before_key(v: &UwbConfiguration, out: &mut [u8], at: usize) -> usize
     requires { at + 10 ≤ length out.old }
@@ -226,7 +219,7 @@ fn put_after_key(v: &UwbConfiguration, out: &mut [u8], at: usize) -> usize
     requires { at + 4 ≤ length out.old }
     ensures { Put out.old at (write uwb_after_key (after_key v.now)) out.new result × (length v.now.country ≡ 2) }
 {
-    let role = put_pair(out, at, &v.country);
+    let role = put_octets(out, at, &v.country);
     let mode = put(out, role, v.role);
     put(out, mode, v.mode)
 }
@@ -255,7 +248,7 @@ impl Fields for UwbCapability {
     }
 
     fn read(b: &[u8]) -> UwbCapability {
-        let address = pair_at(b, 2);
+        let address = octets_at(b, 2);
         UwbCapability {
             address,
             channels: Channels(u32_at(b, 4)),
@@ -284,7 +277,7 @@ impl Fields for UwbCapability {
     }
 
     fn put_fields(&self, out: &mut [u8], at: usize) -> usize {
-        let channels = put_pair(out, at, &self.address);
+        let channels = put_octets(out, at, &self.address);
         let interval = put_sets(self, out, channels);
         let slot = put_u16(out, interval, self.shortest_interval);
         let roles = put(out, slot, self.shortest_slot);
@@ -329,9 +322,9 @@ impl Fields for UwbConfiguration {
         let after = 15 + k;
         let role = after + 2;
         let mode = role + 1;
-        let address = pair_at(b, 2);
-        let key = key_at(b, 15, k);
-        let country = pair_at(b, after);
+        let address = octets_at(b, 2);
+        let key = padded_at(b, 15, k);
+        let country = octets_at(b, after);
         UwbConfiguration {
             address,
             session_id: u32_at(b, 4),
@@ -354,8 +347,7 @@ impl Fields for UwbConfiguration {
         }
         let country = self.country;
         let k = self.key_length as usize;
-        let last = inside(1, 2, self.role)
-            & (inside(1, 2, self.mode) & is_zero_key_from(&self.key, k));
+        let last = inside(1, 2, self.role) & (inside(1, 2, self.mode) & zero_from(&self.key, k));
         allowed_interval(self.interval)
             & (inside(1, 2, self.slot) & (allowed_country(country) & last))
     }
@@ -374,10 +366,10 @@ impl Fields for UwbConfiguration {
 
     fn put_fields(&self, out: &mut [u8], at: usize) -> usize {
         let k = self.key_length as usize;
-        let session_id = put_pair(out, at, &self.address);
+        let session_id = put_octets(out, at, &self.address);
         let key_length = put_before_key(self, out, session_id);
         let octets = put(out, key_length, self.key_length);
-        let country = put_key(out, octets, &self.key, k);
+        let country = put_first(out, octets, &self.key, k);
         put_after_key(self, out, country)
     }
 }

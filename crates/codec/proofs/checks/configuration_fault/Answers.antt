@@ -24,4 +24,4 @@ returns-then-fault-ne0 c = body_stop _ (cc) (row 2) (ap row c.requires.2) c.if-m
 
 pub returns : goal.returns
 returns c = body_end _ (cc) (row 2) (ap row c.requires.2) c.if-m-lt6.false (eq-eqb _ _ (sym c.u16_at-set.ensures ∙ c.if-set-u16_at.false ∙ c.u16_at.ensures)) configurations refl c.walk_configurations-fault.ensures c.if-fault-ne0.false
-    (rw c.wide.ensures at c.end_fault.ensures)
+    (rw c.from.ensures at c.end_fault.ensures)

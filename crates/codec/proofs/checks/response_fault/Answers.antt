@@ -20,4 +20,4 @@ returns-then-fault-ne0 c = body_stop _ (cc) (row 1) (ap row c.requires.2) c.if-m
 
 pub returns : goal.returns
 returns c = body_end _ (cc) (row 1) (ap row c.requires.2) c.if-m-lt4.false refl capabilities refl c.walk_capabilities-fault.ensures c.if-fault-ne0.false
-    (rw c.wide.ensures at c.end_fault.ensures)
+    (rw c.from.ensures at c.end_fault.ensures)
