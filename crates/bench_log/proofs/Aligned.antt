@@ -3,7 +3,7 @@ use Rattle.std.proofs.Common.{◌≡◌, ℕ, Bool, true, false, cond, ◌&&◌,
 use mathlib.Core.List.{flatten}
 use mathlib.Core.Option.{Option, none, some}
 use Rattle.codec.proofs.Outcomes.{by_bool}
-use Rattle.codec.specs.Refusal.{accept}
+use Rattle.std.specs.Prelude.{Ok}
 use Rattle.codec.specs.Technology.{Technology, technologies, names}
 use Rattle.codec.specs.Layout.{Layout, number, octets, counted, Values}
 use Rattle.codec.specs.Blocks.{Column, capabilities, configurations, cell}
@@ -154,11 +154,11 @@ module _ (a b : Record) where
   presences_meet (t ∷ ts) ss = rw (presences_meet ts ss) (sym (append_assoc (presence_difference a.set b.set t) _ _))
 
   module _ (dl dr : ℕ) (c : Option Column) where
-    slots_left : (row a.id).column ≡ c → lefts (slots_of dl dr c) ≡ fields_from dl (accept a)
+    slots_left : (row a.id).column ≡ c → lefts (slots_of dl dr c) ≡ fields_from dl (Ok a)
     unfolding message_fields
     slots_left e = rw (e, column_left c)
 
-    pub slots_right : (row b.id).column ≡ c → rights (slots_of dl dr c) ≡ fields_from dr (accept b)
+    pub slots_right : (row b.id).column ≡ c → rights (slots_of dl dr c) ≡ fields_from dr (Ok b)
     unfolding message_fields
     slots_right e = rw (e, column_right c)
 
@@ -169,6 +169,6 @@ module _ (a b : Record) where
         (presences_meet technologies (column_slots c) ∙ rw (column_meets c))
 
     -- so the fields that differ are these
-    pub messages_differ : (row a.id).column ≡ c → (row b.id).column ≡ c → differing (fields_from dl (accept a)) (fields_from dr (accept b))
+    pub messages_differ : (row a.id).column ≡ c → (row b.id).column ≡ c → differing (fields_from dl (Ok a)) (fields_from dr (Ok b))
         ≡ difference direction_name (amount dl) (amount dr) ++ (difference message_id_name (amount a.id) (amount b.id) ++ message_differences a b c)
     messages_differ e f = rw (← slots_left e, ← slots_right f) (slots_differ (slots_of dl dr c) (slots_distinct dl dr c) ∙ slots_meet)

@@ -1,6 +1,7 @@
 -- Counting record by record gives the totals of the list, and each record is accepted or refused.
 use Rattle.std.proofs.Common.{◌≡◌, ℕ, ◌+◌, ◌^◌, ◌<◌, true, not, eqb, List, [], ◌∷◌, length, refl, arith, ne_eqb}
-use Rattle.codec.specs.Refusal.{Checked, refuse, accept}
+use Rattle.std.specs.Prelude.{Err, Ok}
+use Rattle.codec.specs.Refusal.{Checked}
 use Rattle.codec.specs.Records.{answer}
 use Rattle.codec.specs.declared.records.Record.{Record}
 use Rattle.codec.proofs.Outcomes.{by_bool, no_zero}
@@ -13,8 +14,8 @@ use Rattle.bench_log.proofs.Items.{all_counted, counted_all}
 
 -- number 0 is given exactly where nothing is refused
 by_zero : (c : Checked Record) → eqb (answer c).refusal 0 ≡ is_accepted c
-by_zero (refuse x) = ne_eqb _ _ (no_zero x)
-by_zero (accept r) = refl
+by_zero (Err x) = ne_eqb _ _ (no_zero x)
+by_zero (Ok r) = refl
 
 zero_accepted : (r : List ℕ) → eqb (entry_of r).refusal 0 ≡ is_accepted (reading_of r)
 unfolding entry_of

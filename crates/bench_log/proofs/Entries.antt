@@ -3,7 +3,9 @@ use Rattle.std.proofs.Common.{◌≡◌, ℕ, ◌+◌, ◌<◌, ◌≤◌, true,
 use borrow.Author.Tests.{lt-leb}
 use Rattle.codec.proofs.Outcomes.{by_bool, and_true_lem}
 use Rattle.codec.proofs.Laws.{part_length}
-use Rattle.codec.specs.Refusal.{Checked, refuse, accept, number_of, broken_record}
+use Rattle.std.specs.Prelude.{Err, Ok}
+use Rattle.codec.specs.Refusal.{Checked, number_of}
+use Rattle.codec.specs.declared.refusal.Refusal.TheVariants.{BrokenRecord}
 use Rattle.codec.specs.Octets.{all_zero, part}
 use Rattle.codec.specs.Table.{message_limit}
 use Rattle.codec.specs.Message.{reading}
@@ -49,7 +51,7 @@ module _ (limit : ℕ) (r : List ℕ) where
   message_length : keeps_layout limit r ≡ true → length (message_in r) ≡ length_in r
   message_length e = part_length 4 (length_in r) r (omega (arith, (kept e).0, (kept e).1))
 
-  pub parts_broken : keeps_layout limit r ≡ false → record { refusal = number_of broken_record; direction = 0; length = 0 } ≡ parts_of (taken_apart limit r)
+  pub parts_broken : keeps_layout limit r ≡ false → record { refusal = number_of BrokenRecord; direction = 0; length = 0 } ≡ parts_of (taken_apart limit r)
   unfolding taken_apart
   parts_broken e = rw e
 
@@ -61,7 +63,7 @@ module _ (limit : ℕ) (r : List ℕ) where
   pub record Apart (p : Parts) : Type 0 where
     pub size : length r ≡ 4 + limit
     pub fits : p.length ≤ limit
-    pub holds : taken_apart limit r ≡ accept (record { direction = p.direction; message = part 4 p.length r })
+    pub holds : taken_apart limit r ≡ Ok (record { direction = p.direction; message = part 4 p.length r })
 
   module _ (p : Parts) (e : p ≡ parts_of (taken_apart limit r)) where
     pub apart : p.refusal ≡ 0 → Apart p
@@ -77,7 +79,7 @@ module _ (limit : ℕ) (r : List ℕ) where
         })
         (λ n. let q = ap (λ (p : Parts). p.refusal) (e ∙ sym (parts_broken n)) in absurd (omega arith))
 
-    pub broken : (p.refusal ≡ 0 → ⊥) → taken_apart limit r ≡ refuse broken_record
+    pub broken : (p.refusal ≡ 0 → ⊥) → taken_apart limit r ≡ Err BrokenRecord
     unfolding taken_apart
     broken z =
         by_bool (keeps_layout limit r)

@@ -4,7 +4,8 @@ use mathlib.Core.List.Memᴰ
 use mathlib.Core.List.{Memᴰ}
 use mathlib.Core.Option.{Option, none, some}
 use borrow.Author.Tests.{eqb-false}
-use Rattle.codec.specs.Refusal.{Checked, refuse, accept, number_of}
+use Rattle.std.specs.Prelude.{Err, Ok}
+use Rattle.codec.specs.Refusal.{Checked, number_of}
 use Rattle.codec.specs.Table.{row}
 use Rattle.codec.specs.Records.{answer}
 use Rattle.codec.specs.declared.records.Record.{Record}
@@ -99,8 +100,8 @@ rights_unrepeated (s ∷ ss) e =
 
 fields_unrepeated : (direction : ℕ) (c : Checked Record) → Unrepeated (fields_from direction c)
 unfolding contents_in
-fields_unrepeated direction (refuse x) = (refl, (refl, tt))
-fields_unrepeated direction (accept a) =
+fields_unrepeated direction (Err x) = (refl, (refl, tt))
+fields_unrepeated direction (Ok a) =
     let c = (row a.id).column in
     subst Unrepeated (slots_right a a direction direction c refl) (rights_unrepeated (slots_of a a direction direction c) (slots_distinct a a direction direction c))
 
@@ -142,21 +143,21 @@ module _ (dl dr : ℕ) (a b : Record) (unequal : a.id ≡ b.id → ⊥) where
   abbrev ids : List Difference
   ids = difference message_id_name (amount a.id) (amount b.id)
 
-  to_facts : (d : Difference) → Memᴰ d (direction_difference dl dr) ⊎ Memᴰ d ids → Said dl (accept a) dr (accept b) d
+  to_facts : (d : Difference) → Memᴰ d (direction_difference dl dr) ⊎ Memᴰ d ids → Said dl (Ok a) dr (Ok b) d
   unfolding contents_in message_fields
   to_facts d (inl m) =
       let o = one_difference direction_name (amount dl) (amount dr) d m in
-      subst (Said dl (accept a) dr (accept b)) (sym o.0) ((refl, refl, o.1), inl (Memᴰ.head refl))
+      subst (Said dl (Ok a) dr (Ok b)) (sym o.0) ((refl, refl, o.1), inl (Memᴰ.head refl))
   to_facts d (inr m) =
       let o = one_difference message_id_name (amount a.id) (amount b.id) d m in
-      subst (Said dl (accept a) dr (accept b)) (sym o.0) ((refl, refl, o.1), inl (Memᴰ.tail (Memᴰ.tail (Memᴰ.head refl))))
+      subst (Said dl (Ok a) dr (Ok b)) (sym o.0) ((refl, refl, o.1), inl (Memᴰ.tail (Memᴰ.tail (Memᴰ.head refl))))
 
   -- a field of the first three
   abbrev F : List LogField
-  F = fields_from dl (accept a)
+  F = fields_from dl (Ok a)
 
   abbrev G : List LogField
-  G = fields_from dr (accept b)
+  G = fields_from dr (Ok b)
 
   of_id : (d : Difference) → Facts F G d → d.name ≡ message_id_name → Memᴰ d (direction_difference dl dr ++ ids)
   unfolding contents_in message_fields
@@ -180,7 +181,7 @@ module _ (dl dr : ℕ) (a b : Record) (unequal : a.id ≡ b.id → ⊥) where
   unfolding contents_in message_fields
   ids_unequal e = unequal (amount_equal (some_equal e))
 
-  cut_exactly : (d : Difference) → Memᴰ d (shown_from dl (accept a) dr (accept b)) ↔ Said dl (accept a) dr (accept b) d
+  cut_exactly : (d : Difference) → Memᴰ d (shown_from dl (Ok a) dr (Ok b)) ↔ Said dl (Ok a) dr (Ok b) d
   cut_exactly d = (
     λ m. to_facts d (Memᴰ.append_cases (direction_difference dl dr) (subst (Memᴰ d) (shown_ids dl dr a b unequal) m)),
     λ h. subst (Memᴰ d) (sym (shown_ids dl dr a b unequal)) (⊎_elim (of_facts d h.0) (λ e. absurd (ids_unequal e)) h.1),
@@ -188,24 +189,24 @@ module _ (dl dr : ℕ) (a b : Record) (unequal : a.id ≡ b.id → ⊥) where
 
 -- two accepted messages with equal IDs
 module _ (dl dr : ℕ) (a b : Record) (equal : a.id ≡ b.id) where
-  same_ids : contents_in (fields_from dl (accept a)) message_id_name ≡ contents_in (fields_from dr (accept b)) message_id_name
+  same_ids : contents_in (fields_from dl (Ok a)) message_id_name ≡ contents_in (fields_from dr (Ok b)) message_id_name
   unfolding contents_in message_fields
   same_ids = ap (λ (n : ℕ). some (amount n)) equal
 
-  all_shown : shown_from dl (accept a) dr (accept b) ≡ differing (fields_from dl (accept a)) (fields_from dr (accept b))
+  all_shown : shown_from dl (Ok a) dr (Ok b) ≡ differing (fields_from dl (Ok a)) (fields_from dr (Ok b))
   unfolding difference
   all_shown =
       let c = (row a.id).column in
       shown_messages dl dr a b equal ∙ sym (messages_differ a b dl dr c refl (ap (λ (i : ℕ). (row i).column) (sym equal)) ∙ rw (eq-eqb a.id b.id equal))
 
 exactly_from : (dl dr : ℕ) (l r : Checked Record) (d : Difference) → Memᴰ d (shown_from dl l dr r) ↔ Said dl l dr r d
-exactly_from dl dr (refuse x) r =
-    uncut_exactly dl dr (refuse x) r (shown_left dl dr x r ∙ sym (differ_left dl dr x r)) (λ d m. inl (heads_named dl dr (number_of x) (answer r).refusal d (subst (Memᴰ d) (shown_left dl dr x r) m)))
-exactly_from dl dr (accept a) (refuse y) =
-    uncut_exactly dl dr (accept a) (refuse y) (shown_right dl dr a y ∙ sym (differ_right dl dr a y)) (λ d m. inl (heads_named dl dr 0 (number_of y) d (subst (Memᴰ d) (shown_right dl dr a y) m)))
-exactly_from dl dr (accept a) (accept b) =
+exactly_from dl dr (Err x) r =
+    uncut_exactly dl dr (Err x) r (shown_left dl dr x r ∙ sym (differ_left dl dr x r)) (λ d m. inl (heads_named dl dr (number_of x) (answer r).refusal d (subst (Memᴰ d) (shown_left dl dr x r) m)))
+exactly_from dl dr (Ok a) (Err y) =
+    uncut_exactly dl dr (Ok a) (Err y) (shown_right dl dr a y ∙ sym (differ_right dl dr a y)) (λ d m. inl (heads_named dl dr 0 (number_of y) d (subst (Memᴰ d) (shown_right dl dr a y) m)))
+exactly_from dl dr (Ok a) (Ok b) =
     λ d. by_bool (eqb a.id b.id)
-    (λ y. let e = eqb-true a.id b.id y in uncut_exactly dl dr (accept a) (accept b) (all_shown dl dr a b e) (λ d m. inr (same_ids dl dr a b e)) d)
+    (λ y. let e = eqb-true a.id b.id y in uncut_exactly dl dr (Ok a) (Ok b) (all_shown dl dr a b e) (λ d m. inr (same_ids dl dr a b e)) d)
     (λ n. cut_exactly dl dr a b (eqb-false a.id b.id n) d)
 
 pub shown_exactly : (l r : List ℕ) (d : Difference) → Memᴰ d (shown l r) ↔ Differs l r d

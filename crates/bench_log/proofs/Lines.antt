@@ -2,7 +2,8 @@
 use Rattle.std.proofs.Common.{◌≡◌, ℕ, ◌+◌, ◌-◌, ◌*◌, ◌<◌, ◌≤◌, eqb, List, length, subst, arith, length-append, eq-eqb, ne_eqb, eqb-true, le-leb}
 use borrow.Author.Tests.{lt-leb, eqb-false}
 use Rattle.codec.proofs.Outcomes.{by_bool}
-use Rattle.codec.specs.Refusal.{number_of, buffer_too_short}
+use Rattle.codec.specs.Refusal.{number_of}
+use Rattle.codec.specs.declared.refusal.Refusal.TheVariants.{BufferTooShort}
 use Rattle.codec.specs.Writing.{fitting, LaysOut}
 use Rattle.codec.specs.Inner.Puts.{over, Put}
 use Rattle.bench_log.specs.Text.{decimal}
@@ -58,7 +59,7 @@ pub all_listed : (piece : List ℕ) (i : ℕ) {t u : Totals} {d e : List ℕ} {n
 all_listed piece i {t} {u} {d} {e} {n} k l = subst (λ (i : ℕ). Tells next_line next_totals (records_in i piece) t d u n e) k (all_told next_line next_totals l)
 
 -- a buffer that is too short, and one that is not
-pub lays_none : (w d : List ℕ) → length d < length w → LaysOut (fitting w (length d)) d (record { refusal = number_of buffer_too_short; length = 0 }) d
+pub lays_none : (w d : List ℕ) → length d < length w → LaysOut (fitting w (length d)) d (record { refusal = number_of BufferTooShort; length = 0 }) d
 lays_none w d h = record { answers = rw (lt-leb _ _ h); leaves = rw (lt-leb _ _ h) }
 
 pub lays : {w d e : List ℕ} {n : ℕ} → Put d 0 w e n → LaysOut (fitting w (length d)) d (record { refusal = 0; length = n }) e

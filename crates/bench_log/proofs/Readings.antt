@@ -4,7 +4,8 @@ use mathlib.Core.List.{flatten, nil≢cons}
 use mathlib.Core.Option.{Option, none, some}
 use borrow.Author.Tests.{eqb-false}
 use Rattle.codec.specs.Octets.{Octets}
-use Rattle.codec.specs.Refusal.{Checked, refuse, accept, number_of}
+use Rattle.std.specs.Prelude.{Err, Ok}
+use Rattle.codec.specs.Refusal.{Checked, number_of}
 use Rattle.codec.specs.Technology.{Technology, uwb, cs, nan, rssi, technology_id, technologies, set_limit, names}
 use Rattle.codec.specs.Layout.{Layout, number, octets, counted, Values, write}
 use Rattle.codec.specs.Blocks.{Column, cell}
@@ -149,11 +150,11 @@ message_self a c =
 
 -- what an accepted message gives
 abbrev Sound : Checked Record → Type 0
-Sound (refuse x) = Unit {0}
-Sound (accept a) = TypedRecord a × (valid a ≡ true)
+Sound (Err x) = Unit {0}
+Sound (Ok a) = TypedRecord a × (valid a ≡ true)
 
 -- messages with the same normal form have the same record
-normal_record : (a b : Record) → Sound (accept a) → Sound (accept b) → normal a ≡ normal b → a ≡ b
+normal_record : (a b : Record) → Sound (Ok a) → Sound (Ok b) → normal a ≡ normal b → a ≡ b
 normal_record a b s t e =
     ap (λ (r : Reading). r.value) (sym (reads_back a s.0 s.1) ∙ ap (λ (m : List ℕ). answer (reading m)) e ∙ reads_back b t.0 t.1)
 
@@ -163,9 +164,9 @@ Equal dl l dr r = (dl ≡ dr) × (normal_form_of l ≡ normal_form_of r) × ((an
 
 none_shown : (dl dr : ℕ) (l r : Checked Record) → Sound l → Sound r → Equal dl l dr r → shown_from dl l dr r ≡ []
 unfolding difference
-none_shown dl dr (refuse x) r s t e = shown_left dl dr x r ∙ rw (e.0, e.2) (rw (eq-eqb dr dr refl, eq-eqb (answer r).refusal (answer r).refusal refl))
-none_shown dl dr (accept a) (refuse y) s t e = absurd (no_zero y (sym e.2))
-none_shown dl dr (accept a) (accept b) s t e =
+none_shown dl dr (Err x) r s t e = shown_left dl dr x r ∙ rw (e.0, e.2) (rw (eq-eqb dr dr refl, eq-eqb (answer r).refusal (answer r).refusal refl))
+none_shown dl dr (Ok a) (Err y) s t e = absurd (no_zero y (sym e.2))
+none_shown dl dr (Ok a) (Ok b) s t e =
     let q = normal_record a b s t e.1 in
     shown_messages dl dr a b (ap (λ (r : Record). r.id) q)
     ∙ subst (λ (r : Record). direction_difference dl dr ++ message_differences a r (row a.id).column ≡ []) q
@@ -178,10 +179,10 @@ module _ (dl dr : ℕ) where
       (amount_equal o.0, amount_equal (none_equal refusal_name (amount n) (amount m) o.1))
 
   shown_none : (l r : Checked Record) → Sound l → Sound r → shown_from dl l dr r ≡ [] → Equal dl l dr r
-  shown_none (refuse x) (refuse y) s t e = let h = head_equal (number_of x) (number_of y) (sym (shown_left dl dr x (refuse y)) ∙ e) in (h.0, refl, h.1)
-  shown_none (refuse x) (accept b) s t e = let h = head_equal (number_of x) 0 (sym (shown_left dl dr x (accept b)) ∙ e) in absurd (no_zero x h.1)
-  shown_none (accept a) (refuse y) s t e = let h = head_equal 0 (number_of y) (sym (shown_right dl dr a y) ∙ e) in absurd (no_zero y (sym h.1))
-  shown_none (accept a) (accept b) s t e =
+  shown_none (Err x) (Err y) s t e = let h = head_equal (number_of x) (number_of y) (sym (shown_left dl dr x (Err y)) ∙ e) in (h.0, refl, h.1)
+  shown_none (Err x) (Ok b) s t e = let h = head_equal (number_of x) 0 (sym (shown_left dl dr x (Ok b)) ∙ e) in absurd (no_zero x h.1)
+  shown_none (Ok a) (Err y) s t e = let h = head_equal 0 (number_of y) (sym (shown_right dl dr a y) ∙ e) in absurd (no_zero y (sym h.1))
+  shown_none (Ok a) (Ok b) s t e =
       by_bool (eqb a.id b.id)
       (λ y.
       let i = eqb-true a.id b.id y in
@@ -197,8 +198,8 @@ message_sound : (m : List ℕ) → Octets m → Sound (reading m)
 message_sound m o = go (reading m) refl
   where
     go : (c : Checked Record) → reading m ≡ c → Sound c
-    go (refuse x) e = tt
-    go (accept a) e = accepted_valid m o a (ap answer e)
+    go (Err x) e = tt
+    go (Ok a) e = accepted_valid m o a (ap answer e)
 
 reading_sound : (r : List ℕ) → Octets r → Sound (reading_of r)
 unfolding reading_of taken_apart

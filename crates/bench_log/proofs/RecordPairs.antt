@@ -2,7 +2,8 @@
 use Rattle.std.proofs.Common.{◌≡◌, ℕ, ◌+◌, ◌-◌, ◌≤◌, true, false, eqb, List, [], ◌∷◌, ◌++◌, map, length, sym, refl, ap, ◌∙◌, subst, append-nil, arith, length-append, eqb-true}
 use mathlib.Core.List.{flatten}
 use borrow.Author.Tests.{eqb-false}
-use Rattle.codec.specs.Refusal.{Checked, refuse, accept, and_then}
+use Rattle.std.specs.Prelude.{Err, Ok}
+use Rattle.codec.specs.Refusal.{Checked, and_then}
 use Rattle.codec.specs.Octets.{Octets, part}
 use Rattle.codec.specs.Table.{message_limit}
 use Rattle.codec.specs.Records.{answer, accepted}
@@ -33,9 +34,9 @@ read_number : (m : List ℕ) → (answer (reading m)).refusal ≡ number_in (par
 unfolding reading
 read_number m = go (parse m)
   where
-    go : (c : Checked (List (List ℕ))) → (answer (and_then c λ blocks. accept (record_of (id_of m) (set_of m) blocks))).refusal ≡ number_in c
-    go (refuse x) = refl
-    go (accept blocks) = refl
+    go : (c : Checked (List (List ℕ))) → (answer (and_then c λ blocks. Ok (record_of (id_of m) (set_of m) blocks))).refusal ≡ number_in c
+    go (Err x) = refl
+    go (Ok blocks) = refl
 
 module _ (r : List ℕ) (p : Parts) (e : p ≡ parts_of (taken_apart message_limit r)) where
   pub sees_broken : (p.refusal ≡ 0 → ⊥) → (end : ℕ) (places : List ℕ) → Sees r (record { direction = 0; refusal = p.refusal; end = end; places = places })
@@ -65,19 +66,19 @@ module _ (r : List ℕ) (p : Parts) (e : p ≡ parts_of (taken_apart message_lim
 -- ---- what is shown of two
 
 -- the record of an accepted message
-read_accepted : (m places : List ℕ) → Located m 0 places → reading m ≡ accept (record_at m places)
+read_accepted : (m places : List ℕ) → Located m 0 places → reading m ≡ Ok (record_at m places)
 read_accepted m places l = go (reading m) (l.reads refl)
   where
-    go : (c : Checked Record) → accepted (record_at m places) ≡ answer c → c ≡ accept (record_at m places)
-    go (refuse x) e = absurd (no_zero x (sym (ap (λ (a : Reading). a.refusal) e)))
-    go (accept b) e = ap accept (sym (ap (λ (a : Reading). a.value) e))
+    go : (c : Checked Record) → accepted (record_at m places) ≡ answer c → c ≡ Ok (record_at m places)
+    go (Err x) e = absurd (no_zero x (sym (ap (λ (a : Reading). a.refusal) e)))
+    go (Ok b) e = ap Ok (sym (ap (λ (a : Reading). a.value) e))
 
 either_refused : (dl dr : ℕ) (l r : Checked Record) → (((answer l).refusal ≡ 0) × ((answer r).refusal ≡ 0) → ⊥) → shown_from dl l dr r ≡ head_differences dl dr (answer l).refusal (answer r).refusal
-either_refused dl dr (refuse x) r n = shown_left dl dr x r
-either_refused dl dr (accept a) (refuse y) n = shown_right dl dr a y
-either_refused dl dr (accept a) (accept b) n = absurd (n (refl, refl))
+either_refused dl dr (Err x) r n = shown_left dl dr x r
+either_refused dl dr (Ok a) (Err y) n = shown_right dl dr a y
+either_refused dl dr (Ok a) (Ok b) n = absurd (n (refl, refl))
 
-both_accepted : (dl dr : ℕ) (a b : Record) → shown_from dl (accept a) dr (accept b) ≡ direction_difference dl dr ++ read_differences a b
+both_accepted : (dl dr : ℕ) (a b : Record) → shown_from dl (Ok a) dr (Ok b) ≡ direction_difference dl dr ++ read_differences a b
 unfolding read_differences
 both_accepted dl dr a b =
     by_bool (eqb a.id b.id)

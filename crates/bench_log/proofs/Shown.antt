@@ -2,7 +2,9 @@
 use Rattle.std.proofs.Common.{◌≡◌, ℕ, false, ◌&&◌, List, [], ◌∷◌, ◌++◌, map, take, sym, refl, ap, ◌∙◌, append_assoc, append-nil, eq-eqb, ne_eqb}
 use mathlib.Core.List.{flatten}
 use mathlib.Core.Option.{Option, none, some}
-use Rattle.codec.specs.Refusal.{Refusal, Checked, refuse, accept, number_of}
+use Rattle.std.specs.Prelude.{Err, Ok}
+use Rattle.codec.specs.Refusal.{Checked, number_of}
+use Rattle.codec.specs.declared.refusal.Refusal.{Refusal}
 use Rattle.codec.specs.Technology.{Technology, uwb, cs, nan, rssi, technologies, names}
 use Rattle.codec.specs.Layout.{Layout, number, octets, counted, Values}
 use Rattle.codec.specs.Blocks.{Column, cell}
@@ -149,17 +151,17 @@ module _ (dl dr : ℕ) where
   unfolding up_to
   uncut n m ds e = rw (e, ← append-nil (head_differences dl dr n m)) (kept_head n m [])
 
-  pub differ_left : (x : Refusal) (r : Checked Record) → differing (fields_from dl (refuse x)) (fields_from dr r) ≡ head_differences dl dr (number_of x) (answer r).refusal
-  differ_left x (refuse y) = head_left (number_of x) (number_of y) []
-  differ_left x (accept b) = head_left (number_of x) 0 (message_fields b)
+  pub differ_left : (x : Refusal) (r : Checked Record) → differing (fields_from dl (Err x)) (fields_from dr r) ≡ head_differences dl dr (number_of x) (answer r).refusal
+  differ_left x (Err y) = head_left (number_of x) (number_of y) []
+  differ_left x (Ok b) = head_left (number_of x) 0 (message_fields b)
 
-  pub differ_right : (a : Record) (y : Refusal) → differing (fields_from dl (accept a)) (fields_from dr (refuse y)) ≡ head_differences dl dr 0 (number_of y)
+  pub differ_right : (a : Record) (y : Refusal) → differing (fields_from dl (Ok a)) (fields_from dr (Err y)) ≡ head_differences dl dr 0 (number_of y)
   differ_right a y = head_right 0 (number_of y) (message_fields a) (apart_message dr (number_of y) a)
 
-  pub shown_left : (x : Refusal) (r : Checked Record) → shown_from dl (refuse x) dr r ≡ head_differences dl dr (number_of x) (answer r).refusal
+  pub shown_left : (x : Refusal) (r : Checked Record) → shown_from dl (Err x) dr r ≡ head_differences dl dr (number_of x) (answer r).refusal
   shown_left x r = uncut (number_of x) (answer r).refusal _ (differ_left x r)
 
-  pub shown_right : (a : Record) (y : Refusal) → shown_from dl (accept a) dr (refuse y) ≡ head_differences dl dr 0 (number_of y)
+  pub shown_right : (a : Record) (y : Refusal) → shown_from dl (Ok a) dr (Err y) ≡ head_differences dl dr 0 (number_of y)
   shown_right a y = uncut 0 (number_of y) _ (differ_right a y)
 
   -- both are accepted
@@ -172,11 +174,11 @@ module _ (dl dr : ℕ) where
     unfolding up_to difference
     id_last ds n = rw (ne_eqb a.id b.id n)
 
-    pub shown_ids : (a.id ≡ b.id → ⊥) → shown_from dl (accept a) dr (accept b) ≡ direction_difference dl dr ++ id_difference
+    pub shown_ids : (a.id ≡ b.id → ⊥) → shown_from dl (Ok a) dr (Ok b) ≡ direction_difference dl dr ++ id_difference
     unfolding differing contents_in message_fields difference
     shown_ids n = kept_direction (id_difference ++ _) ∙ rw (id_last _ n)
 
-    pub shown_messages : a.id ≡ b.id → shown_from dl (accept a) dr (accept b) ≡ direction_difference dl dr ++ message_differences a b (row a.id).column
+    pub shown_messages : a.id ≡ b.id → shown_from dl (Ok a) dr (Ok b) ≡ direction_difference dl dr ++ message_differences a b (row a.id).column
     unfolding up_to difference
     shown_messages e =
         let c = (row a.id).column in

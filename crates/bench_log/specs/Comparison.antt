@@ -3,7 +3,8 @@ use Rattle.std.specs.Prelude.{◌≡◌, ℕ, ◌*◌, ◌/◌, ◌%◌, ◌<◌
 use Prim.Native.String.{String}
 use mathlib.Core.List.{flatten, Memᴰ}
 use Rattle.std.proofs.Math.Option.{Option, none, some}
-use Rattle.codec.specs.Refusal.{Checked, refuse, accept}
+use Rattle.std.specs.Prelude.{Err, Ok}
+use Rattle.codec.specs.Refusal.{Checked}
 use Rattle.codec.specs.Records.{answer}
 use Rattle.codec.specs.NormalForm.{normal}
 use Rattle.codec.specs.Writing.{fitting, LaysOut}
@@ -78,8 +79,8 @@ pub record Differs (l r : List ℕ) (d : Difference) : Type 0 where
 
 -- a refused message has no normal form
 abbrev pub normal_form_of : Checked Record → List ℕ
-normal_form_of (refuse x) = []
-normal_form_of (accept r) = normal r
+normal_form_of (Err x) = []
+normal_form_of (Ok r) = normal r
 
 -- directions, normal forms and refusal numbers are equal
 unfoldable pub is_same_reading : List ℕ → List ℕ → Bool

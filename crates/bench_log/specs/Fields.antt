@@ -3,7 +3,8 @@ use Rattle.std.specs.Prelude.{ℕ, cond, List, [], ◌∷◌, ◌++◌, map, tak
 use Prim.Native.String.{String}
 use mathlib.Core.List.{flatten}
 use Rattle.std.proofs.Math.Option.{Option, none, some}
-use Rattle.codec.specs.Refusal.{Checked, refuse, accept, number_of}
+use Rattle.std.specs.Prelude.{Err, Ok}
+use Rattle.codec.specs.Refusal.{Checked, number_of}
 use Rattle.codec.specs.Technology.{Technology, uwb, cs, nan, rssi, technologies, names}
 use Rattle.codec.specs.Layout.{Layout, number, octets, counted, Values}
 use Rattle.codec.specs.Blocks.{Column, cell}
@@ -78,8 +79,8 @@ head_fields direction refusal =
     ∷ [])
 
 abbrev pub fields_from : ℕ → Checked Record → List LogField
-fields_from direction (refuse x) = head_fields direction (number_of x)
-fields_from direction (accept r) = head_fields direction 0 ++ message_fields r
+fields_from direction (Err x) = head_fields direction (number_of x)
+fields_from direction (Ok r) = head_fields direction 0 ++ message_fields r
 
 abbrev pub fields_of : List ℕ → List LogField
 fields_of r = fields_from (direction_of r) (reading_of r)

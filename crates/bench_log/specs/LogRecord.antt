@@ -1,7 +1,9 @@
 -- The records of a bench log: their layout, and what an entry says of one.
 use Rattle.std.specs.Prelude.{ℕ, zero, suc, ◌+◌, ◌*◌, ◌/◌, Bool, ◌&&◌, List, [], ◌∷◌, ◌++◌, length, drop, ◌==◌, nat_le, nat_lt, slice_index}
 use Rattle.codec.specs.Octets.{all_zero, part, of_le}
-use Rattle.codec.specs.Refusal.{Checked, refuse, accept, demand, and_then, number_of, broken_record}
+use Rattle.std.specs.Prelude.{Err, Ok}
+use Rattle.codec.specs.Refusal.{Checked, demand, and_then, number_of}
+use Rattle.codec.specs.declared.refusal.Refusal.TheVariants.{BrokenRecord}
 use Rattle.codec.specs.Records.{answer}
 use Rattle.codec.specs.Table.{message_limit}
 use Rattle.codec.specs.Message.{reading}
@@ -33,12 +35,12 @@ pub record Held : Type 0 where
   pub message : List ℕ
 
 unfoldable pub taken_apart : ℕ → List ℕ → Checked Held
-taken_apart limit r = demand (keeps_layout limit r) broken_record (accept (record { direction = slice_index r 0; message = message_in r }))
+taken_apart limit r = demand (keeps_layout limit r) BrokenRecord (Ok (record { direction = slice_index r 0; message = message_in r }))
 
 -- as the code returns it: the refusal's number, or 0 with the direction and the length of the message, which follows the four octets
 abbrev pub parts_of : Checked Held → Parts
-parts_of (refuse x) = record { refusal = number_of x; direction = 0; length = 0 }
-parts_of (accept h) = record { refusal = 0; direction = h.direction; length = length h.message }
+parts_of (Err x) = record { refusal = number_of x; direction = 0; length = 0 }
+parts_of (Ok h) = record { refusal = 0; direction = h.direction; length = length h.message }
 
 -- ---- the records of a log
 

@@ -1,6 +1,7 @@
 -- Totals: how many records a log has, and how many of them are accepted and refused.
 use Rattle.std.specs.Prelude.{ℕ, Bool, true, false, not, List, length, ◌==◌}
-use Rattle.codec.specs.Refusal.{Checked, refuse, accept}
+use Rattle.std.specs.Prelude.{Err, Ok}
+use Rattle.codec.specs.Refusal.{Checked}
 use Rattle.bench_log.specs.LogRecord.{reading_of}
 use Rattle.bench_log.specs.Items.{how_many, tally}
 use Rattle.bench_log.specs.declared.entry.Entry.{Entry}
@@ -9,8 +10,8 @@ use Rattle.bench_log.specs.declared.totals.Totals.{Totals}
 -- ---- of a list of records
 
 abbrev pub is_accepted : {A : Type 0} → Checked A → Bool
-is_accepted (refuse x) = false
-is_accepted (accept a) = true
+is_accepted (Err x) = false
+is_accepted (Ok a) = true
 
 abbrev pub totals : List (List ℕ) → Totals
 totals rs = record {

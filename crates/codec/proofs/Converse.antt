@@ -25,7 +25,7 @@ use Rattle.codec.specs.declared.records.Record.{Record}
 use Rattle.codec.proofs.Laws.{two_head}
 use Rattle.codec.proofs.Outcomes.{by_bool}
 use Rattle.codec.proofs.Layouts.{need_from}
-use Rattle.codec.proofs.Fields.{octets_left, octets_right, typed_zeroes, zeroed_zeroes, forth}
+use Rattle.codec.proofs.FieldLaws.{octets_left, octets_right, typed_zeroes, zeroed_zeroes, forth}
 use Rattle.codec.proofs.Bits.{bit_under}
 use Rattle.codec.proofs.Counting.{has_some, all_named}
 use Rattle.codec.proofs.Every.{Among, first, further, each_at}

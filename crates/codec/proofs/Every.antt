@@ -1,6 +1,6 @@
 -- What holds of every technology and of every column.
 use mathlib.Core.Path.{◌≡◌, refl}
-use mathlib.Core.Bool.{Bool, true, false, ◌&&◌}
+use mathlib.Core.Bool.{Bool, true, false, ◌&&◌, and-true}
 use mathlib.Core.List.{List, [], ◌∷◌}
 use Rattle.codec.specs.Technology.{Technology, uwb, cs, nan, rssi, technologies}
 use Rattle.codec.specs.Blocks.{Column, capabilities, configurations, columns}
@@ -21,6 +21,9 @@ a_technology rssi = further (further (further first))
 pub a_column : (k : Column) → Among k columns
 a_column capabilities = first
 a_column configurations = further first
+
+pub every_technology : (f : Technology → Bool) {a b c d : Bool} → a ≡ f uwb → b ≡ f cs → c ≡ f nan → d ≡ f rssi → (a && (b && (c && d))) ≡ every technologies f
+every_technology f p q r s = rw (p, q, r, s, and-true (f rssi)) refl
 
 module _ {A : Type 0} where
   pub each_at : (P : A → Type 0) (x : A) {l : List A} → Each P l → Among x l → P x

@@ -1,14 +1,18 @@
 -- Laws on tests and lists that several proofs cite.
 use Prim.Native.Nat.{ℕ, zero, suc, ◌+◌, ◌-◌, ◌*◌, ◌/◌, ◌%◌, ◌^◌, ◌≤◌, ◌<◌}
 use mathlib.Core.Path.{◌≡◌, refl, sym, ap, ◌∙◌}
-use mathlib.Core.Bool.{Bool, true, false, not, ◌&&◌, and_assoc}
-use mathlib.Core.List.{List, [], ◌∷◌, ◌++◌, append-nil}
+use mathlib.Core.Bool.{◌&&◌, and_assoc, and-true}
+use Rattle.std.specs.List.{fold}
+use Rattle.std.specs.Int.Bits.{bit_or}
+use Rattle.std.specs.Int.{w16, w32, from_le_bytes, to_le_bytes}
+use Rattle.std.proofs.lemmas.Nat.{le_or_l}
+use mathlib.Core.List.{List, [], ◌∷◌, ◌++◌}
 use native.Mathlib.Omega.{arith}
-use native.Mathlib.Nat.{add-sub_cancel_left, zero-sub, sub-zero, suc-sub-suc, sub_self, add-zero, pow-suc}
+use native.Mathlib.Nat.{add-sub_cancel_left, zero-sub, sub-zero, suc-sub-suc, add-zero, pow-suc}
 use native.Mathlib.Numerals.{add-one}
 use lib.ListN.{length, get_or, take, drop, replicate, length-append, length-drop, length-take}
-use lib.Seq.{take_all, take_at, drop_at, drop-drop, drop-cons, get_or-drop}
-use borrow.Author.Tests.{not-true, not-false, ne_eqb}
+use lib.Seq.{take_all, take_at, drop_at, drop-drop, drop-cons, get_or-drop, get_or-take}
+use borrow.Author.Tests.{ne_eqb}
 use lib.Dec.{eqb}
 use Rattle.codec.specs.Octets.{Octets, all_zero, part, of_le, to_le}
 
@@ -61,23 +65,6 @@ drop_zeros zero n = ap (λ (j : ℕ). replicate j 0) (sym (sub-zero n))
 drop_zeros (suc k) zero = ap (λ (j : ℕ). replicate j 0) (sym (zero-sub (suc k)))
 drop_zeros (suc k) (suc n) = drop_zeros k n ∙ ap (λ (j : ℕ). replicate j 0) (sym (suc-sub-suc n k))
 
--- octets are zero exactly if their number is
-sum_zero : (a b : ℕ) → eqb (a + 256 * b) 0 ≡ (eqb a 0 && eqb b 0)
-sum_zero zero zero = refl
-sum_zero zero (suc b) = ne_eqb (0 + 256 * suc b) 0 (λ e. omega arith) ∙ sym (ne_eqb (suc b) 0 (λ e. omega arith))
-sum_zero (suc a) b = ne_eqb (suc a + 256 * b) 0 (λ e. omega arith) ∙ rw (ne_eqb (suc a) 0 (λ e. omega arith))
-
-next_zero : (s : List ℕ) (i : ℕ) → i < length s → all_zero (drop i s) ≡ (eqb (get_or s i 0) 0 && all_zero (drop (i + 1) s))
-unfolding all_zero
-next_zero s i l = rw (drop-cons s i 0 l, add-one)
-
-pub number_zero : (w : ℕ) (s : List ℕ) (i : ℕ) → i + suc w ≤ length s → all_zero (drop i s) ≡ (eqb (of_le (suc w) i s) 0 && all_zero (drop (i + suc w) s))
-number_zero zero s i h = next_zero s i (omega arith)
-number_zero (suc w) s i h =
-    let end : i + 1 + suc w ≡ i + suc (suc w) = omega arith in
-    rw (next_zero s i (omega arith), number_zero w s (i + 1) (omega arith), end, sum_zero (get_or s i 0) (of_le (suc w) (i + 1) s))
-    (sym (and_assoc (eqb (get_or s i 0) 0) (eqb (of_le (suc w) (i + 1) s) 0) (all_zero (drop (i + suc (suc w)) s))))
-
 -- n zeros whose first k octets became those from a place on
 pub copied : (s e : List ℕ) (at k n : ℕ) → e ≡ take (at + k - at) (drop at s) → e ++ drop k (replicate n 0) ≡ part at k s ++ replicate (n - k) 0
 copied s e at k n h = rw (h, add-sub_cancel_left at k, drop_zeros)
@@ -107,3 +94,38 @@ forth_le (suc (suc w)) at s o h =
     let low : (get_or s at 0 + 256 * v) % 256 ≡ get_or s at 0 = omega arith in
     let high : (get_or s at 0 + 256 * v) / 256 ≡ v = omega arith in
     rw (low, high, drop-cons s at 0 (omega arith)) (ap (λ (t : List ℕ). get_or s at 0 ∷ t) (forth_le (suc w) (at + 1) s o (omega arith) ∙ ap (λ (k : ℕ). part k (suc w) s) (add-one at)))
+
+-- octets are zero exactly if none of them has a bit
+or_zero : (a x : ℕ) → eqb (bit_or a x) 0 ≡ (eqb a 0 && eqb x 0)
+or_zero zero x = refl
+or_zero (suc a) x =
+    let h = le_or_l (suc a) x in
+    ne_eqb (bit_or (suc a) x) 0 (λ e. omega arith) ∙ rw (ne_eqb (suc a) 0 (λ e. omega arith))
+
+pub zero_together : (l : List ℕ) (a : ℕ) → eqb (fold bit_or a l) 0 ≡ (eqb a 0 && all_zero l)
+unfolding all_zero
+zero_together [] a = sym (and-true (eqb a 0))
+zero_together (x ∷ l) a = zero_together l (bit_or a x) ∙ rw (or_zero a x, and_assoc (eqb a 0) (eqb x 0) (all_zero l))
+
+-- numbers as std makes them of octets
+module _ (at : ℕ) (s : List ℕ) where
+  octet : (n i k : ℕ) → i < n → k ≡ at + i → get_or (part at n s) i 0 ≡ get_or s k 0
+  octet n i k h e = get_or-take n (drop at s) i 0 h ∙ get_or-drop at s i 0 ∙ ap (λ (j : ℕ). get_or s j 0) (sym e)
+
+  pub two_at : from_le_bytes w16 (part at 2 s) ≡ of_le 2 at s
+  two_at = omega (arith, octet 2 0 at (omega arith) (omega arith), octet 2 1 (at + 1) (omega arith) (omega arith))
+
+  pub four_at : from_le_bytes w32 (part at 4 s) ≡ of_le 4 at s
+  four_at = omega (arith, octet 4 0 at (omega arith) (omega arith), octet 4 1 (at + 1) (omega arith) (omega arith), octet 4 2 (at + 1 + 1) (omega arith) (omega arith), octet 4 3 (at + 1 + 1 + 1) (omega arith) (omega arith))
+
+-- and the octets that std makes of them
+pub two_of : (x : ℕ) → x < 2 ^ 16 → to_le_bytes w16 x ≡ to_le 2 x
+two_of x h =
+    let b : x / 256 % 256 ≡ x / 256 = omega arith in
+    rw b refl
+
+pub four_of : (x : ℕ) → x < 2 ^ 32 → to_le_bytes w32 x ≡ to_le 4 x
+four_of x h =
+    let c : x / 65536 % 256 ≡ x / 256 / 256 % 256 = omega arith in
+    let d : x / 16777216 % 256 ≡ x / 256 / 256 / 256 = omega arith in
+    rw (c, d) refl

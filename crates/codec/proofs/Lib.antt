@@ -7,7 +7,7 @@ pub mod Every
 pub mod Layouts
 pub mod Cells
 pub mod Puts
-pub mod Fields
+pub mod FieldLaws
 pub mod Counting
 pub mod Risings
 pub mod WalkCases

@@ -6,23 +6,23 @@ use mathlib.Core.Option.{Option}
 use mathlib.Core.Bool.{Bool, true, false, ◌&&◌, cond, and-true as with-true}
 use mathlib.Core.List.{List, [], ◌∷◌, ◌++◌, flatten}
 use lib.Dec.{eqb}
-use lib.ListN.{length}
+use lib.ListN.{length, length-append}
+use lib.Seq.{length-take-le}
 use borrow.Author.Tests.{eqb-true, eq-eqb, lt-leb, le-leb}
-use Rattle.codec.specs.Refusal.{number_of, buffer_too_short, not_valid}
+use Rattle.codec.specs.Refusal.{number_of, BufferTooShort, NotValid}
 use Rattle.codec.specs.Octets.{to_le, all_zero}
 use Rattle.codec.specs.Technology.{Technology, uwb, cs, nan, rssi, technology_id, technologies, names}
-use Rattle.codec.specs.Layout.{Layout, number, octets, counted, test, spelled, Values, zeroes, allowed, cleared, zeroed}
-use Rattle.codec.specs.Blocks.{cs_capability, uwb_configuration, cs_configuration, nan_configuration, Column, capabilities, configurations, cell}
+use Rattle.codec.specs.Layout.{Layout, number, octets, counted, test, spelled, Values, zeroes, allowed, cleared, zeroed, write}
+use Rattle.codec.specs.Blocks.{uwb_configuration, Column, capabilities, configurations, cell}
 use Rattle.codec.specs.Table.{assigned, message_of, Row, row}
 use Rattle.codec.specs.Inner.Places.{set_alone}
-use Rattle.codec.specs.Records.{of_uwb_configuration, of_nan_configuration, fields, column_in, of_record, response, only, settings_record, without_blocks, message_id, set_record}
+use Rattle.codec.specs.Records.{of_uwb_configuration, StructOf, fields, column_in, of_record, response, only, settings_record, without_blocks, message_id, set_record}
 use Rattle.codec.specs.Valid.{valid_fields, valid_column, valid}
 use Rattle.codec.specs.WellFormed.{sets}
 use Rattle.codec.specs.NormalForm.{block, rising, column_blocks, normal}
 use Rattle.codec.specs.Writing.{writing, Writes}
-use Rattle.codec.specs.Inner.Puts.{over, Put, block_if, block_size, head, chain, column_octets, Held, Fit, rest_zero}
+use Rattle.codec.specs.Inner.Puts.{over, Put, block_if, head, chain, column_octets, Held, Fits, rest_zero}
 use Rattle.codec.specs.declared.uwb.UwbConfiguration.{UwbConfiguration}
-use Rattle.codec.specs.declared.nan.NanConfiguration.{NanConfiguration}
 use Rattle.codec.specs.declared.records.Capability.{Capability}
 use Rattle.codec.specs.declared.records.Configuration.{Configuration}
 use Rattle.codec.specs.declared.records.Record.{Record}
@@ -35,17 +35,9 @@ use Rattle.codec.proofs.Cells.{cell_fits, fields_make}
 use Rattle.codec.proofs.Rows.{column_there}
 use Rattle.codec.proofs.ValidCases.{set_assigned, only_of, settings_of, bare_valid, bare_of}
 
--- the two blocks of CS have the same octets
-pub cs_put : (present : Bool) (x : ℕ) (a : List ℕ) {d e : List ℕ} {at next : ℕ} → Put d at (block_if present cs_capability 1 (x, (a, tt))) e next → Put d at (block_if present cs_configuration 1 (x, (a, tt))) e next
-cs_put true x a p = p
-cs_put false x a p = p
-
--- what the blocks of a Configuration with a key and with a name take
-pub uwb_size : (v : UwbConfiguration) → 19 + v.key_length ≡ block_size uwb_configuration (of_uwb_configuration v)
-uwb_size v = omega arith
-
-pub nan_size : (v : NanConfiguration) → 5 + v.name_length ≡ block_size nan_configuration (of_nan_configuration v)
-nan_size v = omega arith
+-- the octets of UWB's settings
+pub uwb_written : (v : UwbConfiguration) → length v.address ≡ 2 → length v.key ≡ 32 → length v.country ≡ 2 → v.key_length ≤ 32 → 19 + v.key_length ≡ 2 + length (write uwb_configuration (of_uwb_configuration v))
+uwb_written v a k o h = simp length-append (omega (arith, a, o, length-take-le v.key_length v.key (omega (arith, k, h))))
 
 -- ---- the normal form by message
 
@@ -132,12 +124,12 @@ held : (L : Layout) → fits L ≡ true → (present : Bool) (v : Values L) → 
 held L f true v e = held_allowed L f v (and_true_lem (allowed L v) (cleared L v) e).0
 held L f false v e = held_zeroed L v e
 
-pub fit : (set : ℕ) (c : Configuration) → valid_column configurations set c ≡ true → Fit c
+pub fit : (k : Column) (set : ℕ) (c : StructOf k) → valid_column k set c ≡ true → Fits k c
 unfolding valid_column
-fit set c e t = held (cell configurations t) (cell_fits configurations t) (names set t) (fields configurations c t) (every_at (λ t. valid_fields (cell configurations t) (names set t) (fields configurations c t)) t e (a_technology t))
+fit k set c e t = held (cell k t) (cell_fits k t) (names set t) (fields k c t) (every_at (λ t. valid_fields (cell k t) (names set t) (fields k c t)) t e (a_technology t))
 
 -- a capability counts nothing
-pub uncounted : (c : Capability) (t : Technology) → Held (cell capabilities t) (fields capabilities c t)
+pub uncounted : (c : Capability) → Fits capabilities c
 uncounted c uwb = tt
 uncounted c cs = tt
 uncounted c nan = tt
@@ -146,11 +138,11 @@ uncounted c rssi = tt
 -- ---- the writer's answers
 
 module _ (r : Record) (d : List ℕ) where
-  pub not_valid_lem : valid r ≡ false → Writes r d (record { refusal = number_of not_valid; length = 0 }) d
+  pub not_valid_lem : valid r ≡ false → Writes r d (record { refusal = number_of NotValid; length = 0 }) d
   unfolding writing
   not_valid_lem h = record { answers = rw h; leaves = rw h }
 
-  pub too_short : valid r ≡ true → length d < length (normal r) → Writes r d (record { refusal = number_of buffer_too_short; length = 0 }) d
+  pub too_short : valid r ≡ true → length d < length (normal r) → Writes r d (record { refusal = number_of BufferTooShort; length = 0 }) d
   unfolding writing
   too_short h l = let b = lt-leb (length (normal r)) (length d) l in record { answers = rw (h, b); leaves = rw (h, b) }
 

@@ -1,20 +1,19 @@
 -- Writing into a buffer, one piece after another.
-use Prim.Native.Nat.{ℕ, ◌+◌, ◌-◌, ◌*◌, ◌/◌, ◌%◌, ◌≤◌, ◌<◌}
+use Prim.Native.Nat.{ℕ, ◌+◌, ◌-◌, ◌≤◌, ◌<◌}
 use native.Mathlib.Omega.{arith}
 use native.Mathlib.Numerals.{add-one}
-use mathlib.Core.Path.{◌≡◌, refl, sym, ap, ◌∙◌}
+use mathlib.Core.Path.{◌≡◌, refl, sym, ap, subst, ◌∙◌}
 use mathlib.Core.List.{List, [], ◌∷◌, ◌++◌, append_assoc, append-nil}
-use lib.ListN.{length, take, drop, set, length-append, length-take, length-drop, take-append-drop, drop_of_length-le}
-use lib.Seq.{take_at, set_split, drop-drop, length-take-le, take-length, drop-append-add}
-use borrow.Author.Tests.{not-true, not-false}
-use mathlib.Core.Bool.{Bool, true, false, not, cond}
-use Rattle.codec.specs.Octets.{to_le}
+use lib.ListN.{length, take, drop, set, length-append, length-take, length-drop, take-append-drop}
+use lib.Seq.{take_at, set_split, drop-drop, length-take-le, drop-append-add}
+use mathlib.Core.Bool.{Bool, true, false, cond}
 use Rattle.codec.specs.Technology.{Technology, technology_id, names}
-use Rattle.codec.specs.Layout.{Layout, number, octets, counted, Values, Typed, write}
+use Rattle.codec.specs.Layout.{Layout, Values, write, zeroed}
 use Rattle.codec.specs.Blocks.{Column, cell}
 use borrow.Rule.Slice.PartMut.{put_mid}
-use Rattle.codec.specs.Inner.Puts.{over, Put, block_if, fields_size, block_size, chain, chain_size, Held}
-use Rattle.codec.proofs.Laws.{long_le}
+use Rattle.codec.specs.Records.{StructOf, fields}
+use Rattle.codec.specs.Valid.{valid_fields}
+use Rattle.codec.specs.Inner.Puts.{over, Put, block_if, Held, Fits, InColumn}
 
 module _ (d : List ℕ) (at : ℕ) where
   length_over : (ws : List ℕ) → at + length ws ≤ length d → length (over d at ws) ≡ length d
@@ -63,59 +62,53 @@ put_part d s e at h w =
     let n : at + length s - at ≡ length s = omega arith in
     put_over d at s _ (at + length s) h (rw (w, n, drop-drop (length s) at d)) refl
 
--- four octets are twice two
-pub four_octets : (x : ℕ) → to_le 2 (x % 65536) ++ to_le 2 (x / 65536) ≡ to_le 4 x
-four_octets x =
-    let q : x / 65536 ≡ x / 256 / 256 = omega arith in
-    let s : x % 65536 ≡ 256 * (x / 256 % 256) + x % 256 = omega arith in
-    let b : (256 * (x / 256 % 256) + x % 256) / 256 ≡ x / 256 % 256 = omega arith in
-    let a : (256 * (x / 256 % 256) + x % 256) % 256 ≡ x % 256 = omega arith in
-    rw (q, s, a, b)
-
 -- a block that is there, and one that is not
 module _ (present : Bool) where
   pub put_block : {d e : List ℕ} {at next : ℕ} (L : Layout) (id size : ℕ) (v : Values L) → present ≡ true → size ≡ 2 + length (write L v)
       → Put d at (id ∷ (size ∷ write L v)) e next → Put d at (block_if present L id v) e next
   put_block L id size v h n p = rw (h, ← n) p
 
-  pub put_absent : (d : List ℕ) (at size : ℕ) (L : Layout) (id : ℕ) (v : Values L) → present ≡ false → at + cond present size 0 ≤ length d → Put d at (block_if present L id v) d at
-  put_absent d at size L id v h l = rw h (put_none d at (omega arith))
+  pub put_absent : (d : List ℕ) (at : ℕ) (L : Layout) (id : ℕ) (v : Values L) → present ≡ false → at + length (block_if present L id v) ≤ length d → Put d at (block_if present L id v) d at
+  put_absent d at L id v h l = rw h (put_none d at (omega (arith, rw h at l)))
 
--- ---- how many octets are written
-
-write_taken : (L : Layout) (v : Values L) → Typed L v → Held L v → length (write L v) ≡ fields_size L v
-write_taken [] v h k = refl
-write_taken (number x w t ∷ L) v h k = simp length-append (omega (arith, write_taken L v.1 h.1 k, long_le w v.0))
-write_taken (octets x n t ∷ L) v h k = simp length-append (omega (arith, write_taken L v.1 h.1.1 k, h.0))
-write_taken (counted y x t c ∷ L) v h k = simp length-append (omega (arith, write_taken L v.1.1 h.1.1.1 k.1, length-take-le v.0 v.1.0 (omega (arith, k.0, h.1.0))))
-
--- room for octets from a place on
+-- room for octets from a place on: for the first of them and, when they are written, for the others
 pub record Room (d : List ℕ) (at : ℕ) (ws : List ℕ) : Type 0 where
   pub fits : at + length ws ≤ length d
 
--- the blocks of a column, one after the other
-module _ (k : Column) (set : ℕ) (v : (t : Technology) → Values (cell k t)) (T : (t : Technology) → Typed (cell k t) (v t)) (H : (t : Technology) → Held (cell k t) (v t)) where
-  abbrev BlockIf : Bool → Technology → List ℕ
-  BlockIf p t = block_if p (cell k t) (technology_id t) (v t)
+room_first : {d : List ℕ} {at : ℕ} (vs ws : List ℕ) → Room d at (vs ++ ws) → at + length vs ≤ length d
+room_first vs ws r = omega (arith, r.fits, length-append vs ws)
 
-  block_size_lem : (p : Bool) (t : Technology) → length (BlockIf p t) ≡ cond p (block_size (cell k t) (v t)) 0
-  block_size_lem true t = omega (arith, write_taken (cell k t) (v t) (T t) (H t))
-  block_size_lem false t = refl
+pub room_others : {d e : List ℕ} {at next : ℕ} {vs ws : List ℕ} → Room d at (vs ++ ws) → Put d at vs e next → Room e next ws
+room_others {vs = vs} {ws = ws} r q = record { fits = omega (arith, r.fits, length-append vs ws, q.place, q.same) }
 
-  pub chain_size_lem : (ts : List Technology) → length (chain k set v ts) ≡ chain_size k set v ts
-  chain_size_lem [] = refl
-  chain_size_lem (t ∷ others) = length-append (BlockIf (names set t) t) (chain k set v others) ∙ omega (arith, block_size_lem (names set t) t, chain_size_lem others)
+-- ---- a block's fields that are those of a technology in a column
 
-  -- room for the first of them and, when it is written, for the others
-  module _ (t : Technology) (others : List Technology) {d : List ℕ} {at : ℕ} (r : Room d at (chain k set v (t ∷ others))) {p : Bool} (e : p ≡ names set t) where
-    split : length (chain k set v (t ∷ others)) ≡ cond p (block_size (cell k t) (v t)) 0 + length (chain k set v others)
-    split = length-append (BlockIf (names set t) t) (chain k set v others) ∙ rw e (omega (arith, block_size_lem (names set t) t))
+module _ (k : Column) (c : StructOf k) (set : ℕ) (t : Technology) {L : Layout} {v : Values L} (e : InColumn k c t L v) where
+  abbrev Filled : Type 0
+  Filled = (M : Layout) × Values M
 
-    pub room_first : at + cond p (block_size (cell k t) (v t)) 0 ≤ length d
-    room_first = omega (arith, r.fits, split)
+  pub in_held : Fits k c → Held L v
+  in_held h = subst (λ (x : Filled). Held x.0 x.1) (sym e) (h t)
 
-    pub room_others : {f : List ℕ} {next : ℕ} → Put d at (BlockIf p t) f next → Room f next (chain k set v others)
-    room_others q = record { fits = omega (arith, r.fits, split, q.place, q.same, block_size_lem p t) }
+  pub in_zero : zeroed L v ≡ zeroed (cell k t) (fields k c t)
+  in_zero = ap (λ (x : Filled). zeroed x.0 x.1) e
 
-  pub put_chain : (t : Technology) (others : List Technology) {d e f : List ℕ} {at next end : ℕ} {p : Bool} → p ≡ names set t → Put d at (BlockIf p t) e next → Put e next (chain k set v others) f end → Put d at (chain k set v (t ∷ others)) f end
-  put_chain t others h a b = put_then (rw h at a) b
+  module _ {p : Bool} (n : p ≡ names set t) where
+    pub in_valid : valid_fields L p v ≡ valid_fields (cell k t) (names set t) (fields k c t)
+    in_valid = ap (λ (b : Bool). valid_fields L b v) n ∙ ap (λ (x : Filled). valid_fields x.0 (names set t) x.1) e
+
+    in_block : block_if p L (technology_id t) v ≡ block_if (names set t) (cell k t) (technology_id t) (fields k c t)
+    in_block = ap (λ (b : Bool). block_if b L (technology_id t) v) n ∙ ap (λ (x : Filled). block_if (names set t) x.0 (technology_id t) x.1) e
+
+    pub in_size : cond p (2 + length (write L v)) 0 ≡ length (block_if (names set t) (cell k t) (technology_id t) (fields k c t))
+    in_size = long p ∙ ap length in_block
+      where
+        long : (b : Bool) → cond b (2 + length (write L v)) 0 ≡ length (block_if b L (technology_id t) v)
+        long true = omega arith
+        long false = refl
+
+    pub in_room : {d : List ℕ} {at : ℕ} (ws : List ℕ) → Room d at (block_if (names set t) (cell k t) (technology_id t) (fields k c t) ++ ws) → at + length (block_if p L (technology_id t) v) ≤ length d
+    in_room ws r = omega (arith, room_first (block_if (names set t) (cell k t) (technology_id t) (fields k c t)) ws r, ap length in_block)
+
+    pub in_put : {d f : List ℕ} {at next : ℕ} → Put d at (block_if p L (technology_id t) v) f next → Put d at (block_if (names set t) (cell k t) (technology_id t) (fields k c t)) f next
+    in_put {d} {f} {at} {next} q = subst (λ (ws : List ℕ). Put d at ws f next) in_block q

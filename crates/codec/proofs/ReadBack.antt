@@ -15,14 +15,14 @@ use Rattle.codec.specs.Technology.{Technology, technology_id, technologies, set_
 use Rattle.codec.specs.Layout.{zeroes, allowed, cleared, value, need}
 use Rattle.codec.specs.Blocks.{Column, capabilities, configurations, columns, cell, layouts}
 use Rattle.codec.specs.Table.{message_limit, assigned, message_of, row, block_count, layouts_of, set_in}
-use Rattle.codec.specs.Records.{column_in, of_record, fields}
+use Rattle.codec.specs.Records.{column_in, of_record}
 use Rattle.codec.specs.Message.{fields_in}
 use Rattle.codec.specs.WellFormed.{Whole, Each, sets, WellFormed}
 use Rattle.codec.specs.Valid.{TypedRecord, valid_fields, valid_column, valid}
-use Rattle.codec.specs.NormalForm.{rising, column_blocks, blocks_of, normal, Rising, NormalForm}
+use Rattle.codec.specs.NormalForm.{column_blocks, blocks_of, normal, Rising, NormalForm}
 use Rattle.codec.specs.declared.records.Record.{Record}
 use Rattle.codec.proofs.Outcomes.{by_bool, and_true_lem}
-use Rattle.codec.proofs.Fields.{octets_none, octets_cons, octets_append, octets_le, zeroed_only}
+use Rattle.codec.proofs.FieldLaws.{octets_none, octets_cons, octets_append, octets_le, zeroed_only}
 use Rattle.codec.proofs.Counting.{count_under}
 use Rattle.codec.proofs.Every.{a_technology, a_column, every_at, every_all}
 use Rattle.codec.proofs.Cells.{layout_of, record_is}

@@ -18,7 +18,7 @@ use Rattle.codec.specs.NormalForm.{block, rising, blocks_of, Rising}
 use Rattle.codec.specs.Records.{fields, response}
 use Rattle.codec.specs.declared.records.Capability.{Capability}
 use Rattle.codec.proofs.Layouts.{most, write_most}
-use Rattle.codec.proofs.Fields.{octets_none, octets_cons, octets_append, octets_write, back}
+use Rattle.codec.proofs.FieldLaws.{octets_none, octets_cons, octets_append, octets_write, back}
 use Rattle.codec.proofs.Counting.{one}
 use Rattle.codec.proofs.Every.{Among, first, further, a_technology, each_at}
 use Rattle.codec.proofs.Cells.{cell_fits, cell_short, technology_below}

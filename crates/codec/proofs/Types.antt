@@ -2,7 +2,7 @@
 use Prim.Native.Nat.{ℕ, zero, suc}
 use native.Mathlib.Omega.{arith}
 use mathlib.Core.Path.{◌≡◌}
-use mathlib.Core.List.{List, [], ◌∷◌, map, map-id}
+use mathlib.Core.List.{List, [], ◌∷◌}
 use lib.ListN.{length}
 use mir.Val.{Val}
 use denote.Laws.{Is}
@@ -79,7 +79,7 @@ module _ (vs : List Val) where
   rssi_block_lem : (x : Rssi) → Is R.the_row x vs → Typed rssi_block (of_rssi x)
   rssi_block_lem x h = let a = array 6 x.address _ (owed R.the_type R'.the_laws x vs h).0 in (a.0, (a.1, tt))
 
-  uwb_configuration_lem : (x : UwbConfiguration) → Is US.the_row x vs → Typed uwb_configuration (of_uwb_configuration x)
+  pub uwb_configuration_lem : (x : UwbConfiguration) → Is US.the_row x vs → Typed uwb_configuration (of_uwb_configuration x)
   uwb_configuration_lem x h =
       let o = owed US.the_type US'.the_laws x vs h in
       let a = array 2 x.address _ o.0 in

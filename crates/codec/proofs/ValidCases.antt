@@ -17,7 +17,7 @@ use Rattle.codec.specs.declared.records.Capability.{Capability}
 use Rattle.codec.specs.declared.records.Configuration.{Configuration}
 use Rattle.codec.specs.declared.records.Record.{Record}
 use Rattle.codec.specs.declared.records.SetMessage.{SetMessage}
-use Rattle.codec.proofs.Fields.{zeroed_zeroes}
+use Rattle.codec.proofs.FieldLaws.{zeroed_zeroes}
 use Rattle.codec.proofs.Every.{every_both}
 use Rattle.codec.proofs.Cells.{fields_make}
 use Rattle.codec.proofs.Rows.{alone_not}

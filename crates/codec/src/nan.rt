@@ -1,16 +1,14 @@
 // Wi-Fi NAN RTT: its two blocks.
-ghost use Rattle.std.specs.Prelude.{◌≡◌, cond, ◌+◌, ◌≤◌, length};
-ghost use Rattle.codec.specs.Layout.{value, fault};
+ghost use Rattle.std.specs.Prelude.{◌≡◌, ◌+◌, ◌≤◌, length};
+ghost use Rattle.codec.specs.Layout.{fault};
 ghost use Rattle.codec.specs.Blocks.{nan_capability, nan_configuration};
 ghost use Rattle.codec.specs.Records.{to_nan_capability, to_nan_configuration, of_nan_capability, of_nan_configuration};
-ghost use Rattle.codec.specs.Valid.{valid_fields};
-ghost use Rattle.codec.specs.Inner.Puts.{Put, block_if};
-ghost use Rattle.codec.specs.Inner.Places.{number_in, Roomy, layout_fault};
+ghost use Rattle.codec.specs.Inner.Places.{layout_fault};
 
-use crate::octets::{all_zero, inside, name_at, put, put_name, zero_from};
-use crate::refusal::{BLOCK_TOO_SMALL, NOT_ALLOWED};
+use crate::fields::Fields;
+use crate::octets::{all_zero, inside, padded_at, put, put_first, zero_from};
+use crate::refusal::Refusal;
 use crate::sizes::{block_octets, size_fault};
-use crate::technology::NAN;
 
 #[repr(C)]
 #[derive(Clone, Copy)]
@@ -30,147 +28,165 @@ pub struct NanConfiguration {
     pub periodic: u8,
 }
 
-// The first fault in the fields of the capability, 0 for none.
-fn capability_fields_fault(b: &[u8]) -> u8
+// The first fault in the fields of the capability.
+fn capability_fields_fault(b: &[u8]) -> Result<(), Refusal>
     requires { 6 ≤ length b.now }
-    ensures { result ≡ number_in (fault nan_capability 2 b.now) }
+    ensures { result ≡ fault nan_capability 2 b.now }
 {
     if !inside(0, 1, b[3]) {
-        return NOT_ALLOWED;
+        return Err(Refusal::NotAllowed);
     }
-    0
+    Ok(())
 }
 
 // The first fault of the block at a place of a message: its size, and then its fields.
-pub(crate) fn capability_fault(m: &[u8], at: usize) -> u8
+pub(crate) fn capability_fault(m: &[u8], at: usize) -> Result<(), Refusal>
     requires { at + 2 ≤ length m.now }
-    ensures { result ≡ number_in (layout_fault nan_capability m.now at) }
+    ensures { result ≡ layout_fault nan_capability m.now at }
 {
-    let fault = size_fault(m, at, 6);
-    if fault != 0 {
-        return fault;
-    }
+    size_fault(m, at, 6)?;
     capability_fields_fault(block_octets(m, at))
 }
 
-pub(crate) fn capability(b: &[u8]) -> NanCapability
-    requires { Roomy nan_capability 2 b.now }
-    ensures { result ≡ to_nan_capability (value nan_capability 2 b.now) }
-{
-    NanCapability {
-        features: b[2],
-        periodic: b[3],
-        bandwidth: b[4],
-        receive_chains: b[5],
-    }
-}
-
-// The first fault in the fields of the configuration, 0 for none.
-fn configuration_fields_fault(b: &[u8]) -> u8
+// The first fault in the fields of the configuration.
+fn configuration_fields_fault(b: &[u8]) -> Result<(), Refusal>
     requires { 3 ≤ length b.now }
-    ensures { result ≡ number_in (fault nan_configuration 2 b.now) }
+    ensures { result ≡ fault nan_configuration 2 b.now }
 {
     if !inside(1, 64, b[2]) {
-        return NOT_ALLOWED;
+        return Err(Refusal::NotAllowed);
     }
     let role = 3 + b[2] as usize;
     let periodic = role + 1;
     if b.len() < periodic + 1 {
-        return BLOCK_TOO_SMALL;
+        return Err(Refusal::BlockTooSmall);
     }
     if !inside(0, 1, b[role]) {
-        return NOT_ALLOWED;
+        return Err(Refusal::NotAllowed);
     }
     if !inside(0, 1, b[periodic]) {
-        return NOT_ALLOWED;
+        return Err(Refusal::NotAllowed);
     }
-    0
+    Ok(())
 }
 
 // The first fault of the block at a place of a message: its size, and then its fields.
-pub(crate) fn configuration_fault(m: &[u8], at: usize) -> u8
+pub(crate) fn configuration_fault(m: &[u8], at: usize) -> Result<(), Refusal>
     requires { at + 2 ≤ length m.now }
-    ensures { result ≡ number_in (layout_fault nan_configuration m.now at) }
+    ensures { result ≡ layout_fault nan_configuration m.now at }
 {
-    let fault = size_fault(m, at, 3);
-    if fault != 0 {
-        return fault;
-    }
+    size_fault(m, at, 3)?;
     configuration_fields_fault(block_octets(m, at))
 }
 
-pub(crate) fn configuration(b: &[u8]) -> NanConfiguration
-    requires { Roomy nan_configuration 2 b.now }
-    ensures { result ≡ to_nan_configuration (value nan_configuration 2 b.now) }
-{
-    let n = b[2] as usize;
-    let role = 3 + n;
-    let periodic = role + 1;
-    let name = name_at(b, 3, n);
-    NanConfiguration {
-        name_length: b[2],
-        name,
-        role: b[role],
-        periodic: b[periodic],
+impl Fields for NanCapability {
+    ghost layout = { nan_capability };
+
+    ghost made = { to_nan_capability };
+
+    ghost values = { of_nan_capability };
+
+    fn zero() -> NanCapability {
+        NanCapability {
+            features: 0,
+            periodic: 0,
+            bandwidth: 0,
+            receive_chains: 0,
+        }
+    }
+
+    fn has_room(b: &[u8]) -> bool {
+        6 <= b.len()
+    }
+
+    fn read(b: &[u8]) -> NanCapability {
+        NanCapability {
+            features: b[2],
+            periodic: b[3],
+            bandwidth: b[4],
+            receive_chains: b[5],
+        }
+    }
+
+    fn is_allowed(&self) -> bool {
+        inside(0, 1, self.periodic)
+    }
+
+    fn is_zero(&self) -> bool {
+        (self.features == 0)
+            & ((self.periodic == 0) & ((self.bandwidth == 0) & (self.receive_chains == 0)))
+    }
+
+    fn size(&self) -> u8 {
+        6
+    }
+
+    fn put_fields(&self, out: &mut [u8], at: usize) -> usize {
+        let periodic = put(out, at, self.features);
+        let bandwidth = put(out, periodic, self.periodic);
+        let chains = put(out, bandwidth, self.bandwidth);
+        put(out, chains, self.receive_chains)
     }
 }
 
-// Whether the fields are valid: allowed where the technology is present, and else zero.
-pub(crate) fn valid_capability(present: bool, v: NanCapability) -> bool
-    ensures { result ≡ valid_fields nan_capability present (of_nan_capability v) }
-{
-    if present {
-        return inside(0, 1, v.periodic);
-    }
-    (v.features == 0) & ((v.periodic == 0) & ((v.bandwidth == 0) & (v.receive_chains == 0)))
-}
+impl Fields for NanConfiguration {
+    ghost layout = { nan_configuration };
 
-// Writes the block where the technology is present.
-pub(crate) fn put_capability(present: bool, v: NanCapability, out: &mut [u8], at: usize) -> usize
-    requires { at + cond present 6 0 ≤ length out.old }
-    ensures { Put out.old at (block_if present nan_capability 2 (of_nan_capability v)) out.new result }
-{
-    if !present {
-        return at;
-    }
-    let size = put(out, at, NAN);
-    let fields = put(out, size, 6);
-    let periodic = put(out, fields, v.features);
-    let bandwidth = put(out, periodic, v.periodic);
-    let chains = put(out, bandwidth, v.bandwidth);
-    put(out, chains, v.receive_chains)
-}
+    ghost made = { to_nan_configuration };
 
-pub(crate) fn valid_configuration(present: bool, v: NanConfiguration) -> bool
-    ensures { result ≡ valid_fields nan_configuration present (of_nan_configuration v) }
-{
-    if !present {
-        return (v.name_length == 0) & (all_zero(&v.name) & ((v.role == 0) & (v.periodic == 0)));
-    }
-    if !inside(1, 64, v.name_length) {
-        return false;
-    }
-    let n = v.name_length as usize;
-    inside(0, 1, v.role) & (inside(0, 1, v.periodic) & zero_from(&v.name, n))
-}
+    ghost values = { of_nan_configuration };
 
-pub(crate) fn put_configuration(
-    present: bool,
-    v: NanConfiguration,
-    out: &mut [u8],
-    at: usize,
-) -> usize
-    requires { (at + cond present (5 + v.name_length) 0 ≤ length out.old) × (v.name_length ≤ 64) }
-    ensures { Put out.old at (block_if present nan_configuration 2 (of_nan_configuration v)) out.new result }
-{
-    if !present {
-        return at;
+    fn zero() -> NanConfiguration {
+        NanConfiguration {
+            name_length: 0,
+            name: [0; 64],
+            role: 0,
+            periodic: 0,
+        }
     }
-    let n = v.name_length as usize;
-    let size = put(out, at, NAN);
-    let fields = put(out, size, 5 + v.name_length);
-    let octets = put(out, fields, v.name_length);
-    let role = put_name(out, octets, &v.name, n);
-    let periodic = put(out, role, v.role);
-    put(out, periodic, v.periodic)
+
+    fn has_room(b: &[u8]) -> bool {
+        if b.len() < 5 {
+            return false;
+        }
+        let n = b[2];
+        (n <= 64) & (5 + n as usize <= b.len())
+    }
+
+    fn read(b: &[u8]) -> NanConfiguration {
+        let n = b[2] as usize;
+        let role = 3 + n;
+        let periodic = role + 1;
+        let name = padded_at(b, 3, n);
+        NanConfiguration {
+            name_length: b[2],
+            name,
+            role: b[role],
+            periodic: b[periodic],
+        }
+    }
+
+    fn is_allowed(&self) -> bool {
+        if !inside(1, 64, self.name_length) {
+            return false;
+        }
+        let n = self.name_length as usize;
+        inside(0, 1, self.role) & (inside(0, 1, self.periodic) & zero_from(&self.name, n))
+    }
+
+    fn is_zero(&self) -> bool {
+        (self.name_length == 0) & (all_zero(&self.name) & ((self.role == 0) & (self.periodic == 0)))
+    }
+
+    fn size(&self) -> u8 {
+        5 + self.name_length
+    }
+
+    fn put_fields(&self, out: &mut [u8], at: usize) -> usize {
+        let n = self.name_length as usize;
+        let octets = put(out, at, self.name_length);
+        let role = put_first(out, octets, &self.name, n);
+        let periodic = put(out, role, self.role);
+        put(out, periodic, self.periodic)
+    }
 }

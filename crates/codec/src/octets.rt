@@ -11,135 +11,57 @@ pub(crate) fn inside(low: u8, high: u8, x: u8) -> bool
     (low <= x) & (x <= high)
 }
 
-// A place that is kept in 16 bits.
-pub(crate) fn wide(x: u16) -> usize
-    ensures { result ≡ x }
-{
-    x as usize
-}
-
-fn joined16(low: u8, high: u8) -> u16
-    ensures { result ≡ low + 256 * high }
-{
-    low as u16 + 256 * high as u16
-}
-
-fn joined32(low: u16, high: u16) -> u32
-    ensures { result ≡ low + 65536 * high }
-{
-    low as u32 + 65536 * high as u32
-}
-
-fn joined64(low: u32, high: u32) -> u64
-    ensures { result ≡ low + 4294967296 * high }
-{
-    low as u64 + 4294967296 * high as u64
-}
-
 // The number of two octets.
+#[tactic(auto, using(crate::proofs::Laws::two_at))]
 pub(crate) fn u16_at(s: &[u8], at: usize) -> u16
     requires { at + 2 ≤ length s.now }
     ensures { result ≡ of_le 2 at s.now }
 {
-    joined16(s[at], s[at + 1])
+    u16::from_le_bytes(octets_at(s, at))
 }
 
 // The number of four octets.
+#[tactic(auto, using(crate::proofs::Laws::four_at))]
 pub(crate) fn u32_at(s: &[u8], at: usize) -> u32
     requires { at + 4 ≤ length s.now }
     ensures { result ≡ of_le 4 at s.now }
 {
-    joined32(u16_at(s, at), u16_at(s, at + 2))
+    u32::from_le_bytes(octets_at(s, at))
 }
 
-// The number of eight octets.
-fn u64_at(s: &[u8], at: usize) -> u64
-    requires { at + 8 ≤ length s.now }
-    ensures { result ≡ of_le 8 at s.now }
+// N octets: an address, a country.
+pub(crate) fn octets_at<const N: usize>(s: &[u8], at: usize) -> [u8; N]
+    requires { at + N ≤ length s.now }
+    ensures { result ≡ part at N s.now }
 {
-    joined64(u32_at(s, at), u32_at(s, at + 4))
-}
-
-// Two octets: a UWB address, a country.
-pub(crate) fn pair_at(s: &[u8], at: usize) -> [u8; 2]
-    requires { at + 2 ≤ length s.now }
-    ensures { result ≡ part at 2 s.now }
-{
-    let mut out = [0u8; 2];
-    out.copy_from_slice(&s[at..at + 2]);
+    let mut out = [0u8; N];
+    out.copy_from_slice(&s[at..at + N]);
     out
 }
 
-// Six octets: the address of any other technology.
-pub(crate) fn address_at(s: &[u8], at: usize) -> [u8; 6]
-    requires { at + 6 ≤ length s.now }
-    ensures { result ≡ part at 6 s.now }
+// n octets of a key or a name, in an array of N, with zeros past them.
+pub(crate) fn padded_at<const N: usize>(s: &[u8], at: usize, n: usize) -> [u8; N]
+    requires { (at + n ≤ length s.now) × (n ≤ N) }
+    ensures { result ≡ part at n s.now ++ replicate (N - n) 0 }
 {
-    let mut out = [0u8; 6];
-    out.copy_from_slice(&s[at..at + 6]);
-    out
-}
-
-// k octets of a key, with zeros past them.
-pub(crate) fn key_at(s: &[u8], at: usize, k: usize) -> [u8; 32]
-    requires { (at + k ≤ length s.now) × (k ≤ 32) }
-    ensures { result ≡ part at k s.now ++ replicate (32 - k) 0 }
-{
-    let mut out = [0u8; 32];
-    out[..k].copy_from_slice(&s[at..at + k]);
-    out
-}
-
-// n octets of a name, with zeros past them.
-pub(crate) fn name_at(s: &[u8], at: usize, n: usize) -> [u8; 64]
-    requires { (at + n ≤ length s.now) × (n ≤ 64) }
-    ensures { result ≡ part at n s.now ++ replicate (64 - n) 0 }
-{
-    let mut out = [0u8; 64];
+    let mut out = [0u8; N];
     out[..n].copy_from_slice(&s[at..at + n]);
     out
 }
 
-// Whether all octets are zero, four at a time, then two and one. It looks at every one, so that the machine code can take many
-// at a time.
+// Whether all octets are zero. It looks at every one, so that the machine code takes many at a time.
 pub fn all_zero(s: &[u8]) -> bool
     ensures { result ≡ all_zero s.now }
 {
-    let mut all = true;
-    let mut i = 0;
-    while 4 <= s.len() - i {
-        all = all & (u32_at(s, i) == 0);
-        i += 4;
-    }
-    while 2 <= s.len() - i {
-        all = all & (u16_at(s, i) == 0);
-        i += 2;
-    }
-    if i < s.len() {
-        return all & (s[i] == 0);
-    }
-    all
+    s.iter().fold(0, |any, octet| any | *octet) == 0
 }
 
-// Whether all octets from a place on are zero, eight at a time and then one by one.
+// Whether all octets from a place on are zero: those past a key or a name.
 pub(crate) fn zero_from(s: &[u8], from: usize) -> bool
     requires { from ≤ length s.now }
     ensures { result ≡ all_zero (drop from s.now) }
 {
-    let mut i = from;
-    while 8 <= s.len() - i {
-        if u64_at(s, i) != 0 {
-            return false;
-        }
-        i += 8;
-    }
-    while i < s.len() {
-        if s[i] != 0 {
-            return false;
-        }
-        i += 1;
-    }
-    true
+    all_zero(&s[from..])
 }
 
 // One octet. Each of these returns the place after what it wrote.
@@ -149,24 +71,6 @@ pub(crate) fn put(out: &mut [u8], at: usize, x: u8) -> usize
 {
     out[at] = x;
     at + 1
-}
-
-// The two octets of a number.
-pub(crate) fn put_u16(out: &mut [u8], at: usize, x: u16) -> usize
-    requires { at + 2 ≤ length out.old }
-    ensures { Put out.old at (to_le 2 x) out.new result }
-{
-    let high = put(out, at, (x % 256) as u8);
-    put(out, high, (x / 256) as u8)
-}
-
-// The four octets of a number.
-pub(crate) fn put_u32(out: &mut [u8], at: usize, x: u32) -> usize
-    requires { at + 4 ≤ length out.old }
-    ensures { Put out.old at (to_le 4 x) out.new result }
-{
-    let high = put_u16(out, at, (x % 65536) as u16);
-    put_u16(out, high, (x / 65536) as u16)
 }
 
 // All octets of a slice.
@@ -179,42 +83,41 @@ fn put_all(out: &mut [u8], at: usize, s: &[u8]) -> usize
     end
 }
 
-// The first n octets of a slice.
-fn put_first(out: &mut [u8], at: usize, s: &[u8], n: usize) -> usize
-    requires { (n ≤ length s.now) × (at + n ≤ length out.old) }
-    ensures { Put out.old at (take n s.now) out.new result }
-{
-    put_all(out, at, &s[..n])
-}
-
-// Two octets: a UWB address, a country.
-pub(crate) fn put_pair(out: &mut [u8], at: usize, pair: &[u8; 2]) -> usize
+// The two octets of a number.
+#[tactic(auto, using(crate::proofs::Laws::two_of))]
+pub(crate) fn put_u16(out: &mut [u8], at: usize, x: u16) -> usize
     requires { at + 2 ≤ length out.old }
-    ensures { Put out.old at pair.now out.new result × (length pair.now ≡ 2) }
+    ensures { Put out.old at (to_le 2 x) out.new result }
 {
-    put_all(out, at, pair)
+    put_all(out, at, &x.to_le_bytes())
 }
 
-// Six octets: the address of any other technology.
-pub(crate) fn put_address(out: &mut [u8], at: usize, address: &[u8; 6]) -> usize
-    requires { at + 6 ≤ length out.old }
-    ensures { Put out.old at address.now out.new result × (length address.now ≡ 6) }
+// The four octets of a number.
+#[tactic(auto, using(crate::proofs::Laws::four_of))]
+pub(crate) fn put_u32(out: &mut [u8], at: usize, x: u32) -> usize
+    requires { at + 4 ≤ length out.old }
+    ensures { Put out.old at (to_le 4 x) out.new result }
 {
-    put_all(out, at, address)
+    put_all(out, at, &x.to_le_bytes())
 }
 
-// The first k octets of a key.
-pub(crate) fn put_key(out: &mut [u8], at: usize, key: &[u8; 32], k: usize) -> usize
-    requires { (k ≤ 32) × (at + k ≤ length out.old) }
-    ensures { Put out.old at (take k key.now) out.new result × (length (take k key.now) ≡ k) }
+// The octets of an array: an address, a country.
+pub(crate) fn put_octets<const N: usize>(out: &mut [u8], at: usize, octets: &[u8; N]) -> usize
+    requires { at + N ≤ length out.old }
+    ensures { Put out.old at octets.now out.new result × (length octets.now ≡ N) }
 {
-    put_first(out, at, key, k)
+    put_all(out, at, octets)
 }
 
-// The first n octets of a name.
-pub(crate) fn put_name(out: &mut [u8], at: usize, name: &[u8; 64], n: usize) -> usize
-    requires { (n ≤ 64) × (at + n ≤ length out.old) }
-    ensures { Put out.old at (take n name.now) out.new result × (length (take n name.now) ≡ n) }
+// The first n octets of an array: of a key, a name.
+pub(crate) fn put_first<const N: usize>(
+    out: &mut [u8],
+    at: usize,
+    octets: &[u8; N],
+    n: usize,
+) -> usize
+    requires { (n ≤ N) × (at + n ≤ length out.old) }
+    ensures { Put out.old at (take n octets.now) out.new result × (length (take n octets.now) ≡ n) }
 {
-    put_first(out, at, name, n)
+    put_all(out, at, &octets[..n])
 }

@@ -1,16 +1,18 @@
 // Records: what a message says, and the reader's answer.
 ghost use Rattle.std.specs.Prelude.{◌≡◌};
 ghost use Rattle.codec.specs.Blocks.{capabilities, configurations};
-ghost use Rattle.codec.specs.Records.{blank, message_id, refused};
+ghost use Rattle.codec.specs.Refusal.{number_of};
+ghost use Rattle.codec.specs.Records.{message_id, refused};
 
+use crate::columns::Column;
 use crate::cs::{CsCapability, CsConfiguration};
+use crate::fields::Fields;
 use crate::message::{CAPABILITY_REQUEST, CONFIGURATION_RESPONSE, STOP, STOP_RESPONSE};
 use crate::nan::{NanCapability, NanConfiguration};
+use crate::places::fields_at;
+use crate::refusal::Refusal;
 use crate::rssi::Rssi;
-use crate::uwb::{
-    Channel, Channels, ConfigId, ConfigIds, PreambleIndex, PreambleIndexes, UwbCapability,
-    UwbConfiguration,
-};
+use crate::uwb::{UwbCapability, UwbConfiguration};
 
 // What the blocks of message 1 say. An absent technology's fields are zero.
 #[repr(C)]
@@ -59,25 +61,15 @@ pub struct Reading {
     pub value: Record,
 }
 
-// What a tag hears: the reader's refusal, ID and set, and where the settings of a Configuration stand in the message; 0 for other
-// messages.
-#[repr(C)]
+// What a tag hears of a message: its ID and set, and where the settings of a Configuration stand in it; 0 for other messages.
 #[derive(Clone, Copy)]
 pub struct Heard {
-    pub refusal: u8,
     pub id: u8,
     pub set: u16,
     pub uwb: u32,
     pub cs: u32,
     pub nan: u32,
     pub rssi: u32,
-}
-
-// The number of a message's first fault, or 0 and places at which reading gives its record.
-#[derive(Clone, Copy)]
-pub struct Found {
-    pub fault: u8,
-    pub places: [u16; 5],
 }
 
 // A block of a message: its place, its ID and its size. All zero for none.
@@ -108,95 +100,111 @@ pub(crate) fn message_id(message: SetMessage) -> u8
     }
 }
 
-// All fields zero.
-pub fn zero_capability() -> Capability
-    ensures { result ≡ blank capabilities }
-{
-    Capability {
-        uwb: UwbCapability {
-            address: [0; 2],
-            channels: Channels(0),
-            preamble_indexes: PreambleIndexes(0),
-            config_ids: ConfigIds(0),
-            shortest_interval: 0,
-            shortest_slot: 0,
-            roles: 0,
-        },
-        cs: CsCapability {
-            security_types: 0,
-            address: [0; 6],
-        },
-        nan: NanCapability {
-            features: 0,
-            periodic: 0,
-            bandwidth: 0,
-            receive_chains: 0,
-        },
-        rssi: Rssi { address: [0; 6] },
+impl Column for Capability {
+    type Uwb = UwbCapability;
+
+    type Cs = CsCapability;
+
+    type Nan = NanCapability;
+
+    ghost column = { capabilities };
+
+    ghost kept = { λ c. c };
+
+    fn zero() -> Capability {
+        Capability {
+            uwb: UwbCapability::zero(),
+            cs: CsCapability::zero(),
+            nan: NanCapability::zero(),
+            rssi: Rssi::zero(),
+        }
+    }
+
+    fn read(m: &[u8], places: &[u16; 5]) -> Capability {
+        Capability {
+            uwb: fields_at(m, u32::from(places[0])),
+            cs: fields_at(m, u32::from(places[1])),
+            nan: fields_at(m, u32::from(places[2])),
+            rssi: fields_at(m, u32::from(places[3])),
+        }
+    }
+
+    fn uwb(&self) -> &UwbCapability {
+        &self.uwb
+    }
+
+    fn cs(&self) -> &CsCapability {
+        &self.cs
+    }
+
+    fn nan(&self) -> &NanCapability {
+        &self.nan
+    }
+
+    fn rssi(&self) -> &Rssi {
+        &self.rssi
     }
 }
 
-// All fields zero.
-pub fn zero_configuration() -> Configuration
-    ensures { result ≡ blank configurations }
-{
-    Configuration {
-        uwb: UwbConfiguration {
-            address: [0; 2],
-            session_id: 0,
-            config_id: ConfigId(0),
-            channel: Channel(0),
-            preamble_index: PreambleIndex(0),
-            interval: 0,
-            slot: 0,
-            key_length: 0,
-            key: [0; 32],
-            country: [0; 2],
-            role: 0,
-            mode: 0,
-        },
-        cs: CsConfiguration {
-            security_level: 0,
-            address: [0; 6],
-        },
-        nan: NanConfiguration {
-            name_length: 0,
-            name: [0; 64],
-            role: 0,
-            periodic: 0,
-        },
-        rssi: Rssi { address: [0; 6] },
+impl Column for Configuration {
+    type Uwb = UwbConfiguration;
+
+    type Cs = CsConfiguration;
+
+    type Nan = NanConfiguration;
+
+    ghost column = { configurations };
+
+    ghost kept = { λ c. c };
+
+    fn zero() -> Configuration {
+        Configuration {
+            uwb: UwbConfiguration::zero(),
+            cs: CsConfiguration::zero(),
+            nan: NanConfiguration::zero(),
+            rssi: Rssi::zero(),
+        }
+    }
+
+    fn read(m: &[u8], places: &[u16; 5]) -> Configuration {
+        Configuration {
+            uwb: fields_at(m, u32::from(places[0])),
+            cs: fields_at(m, u32::from(places[1])),
+            nan: fields_at(m, u32::from(places[2])),
+            rssi: fields_at(m, u32::from(places[3])),
+        }
+    }
+
+    fn uwb(&self) -> &UwbConfiguration {
+        &self.uwb
+    }
+
+    fn cs(&self) -> &CsConfiguration {
+        &self.cs
+    }
+
+    fn nan(&self) -> &NanConfiguration {
+        &self.nan
+    }
+
+    fn rssi(&self) -> &Rssi {
+        &self.rssi
     }
 }
 
 // A refusal, as `read` gives it.
-pub fn refused(number: u8) -> Reading
-    ensures { result ≡ refused number }
+pub fn refused(refusal: Refusal) -> Reading
+    ensures { result ≡ refused (number_of refusal) }
 {
-    let capability = zero_capability();
-    let configuration = zero_configuration();
+    let capability = Capability::zero();
+    let configuration = Configuration::zero();
     Reading {
-        refusal: number,
+        refusal: u8::from(refusal),
         value: Record {
             id: 0,
             set: 0,
             capability,
             configuration,
         },
-    }
-}
-
-// A refusal, as `hear` gives it.
-pub fn unheard(refusal: u8) -> Heard
-    ensures { result ≡ record { refusal = refusal; id = 0; set = 0; uwb = 0; cs = 0; nan = 0; rssi = 0 } }
-{
-    Heard {
-        refusal,
-        id: 0,
-        set: 0,
-        uwb: 0,
-        cs: 0,
-        nan: 0,
-        rssi: 0,
     }
 }

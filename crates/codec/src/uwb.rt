@@ -1,20 +1,19 @@
 // UWB: its two blocks. Channel, preamble index and config ID are kinds of their own, and so are sets of them.
-ghost use Rattle.std.specs.Prelude.{◌≡◌, cond, ◌+◌, ◌≤◌, length, get_or, drop};
+ghost use Rattle.std.specs.Prelude.{◌≡◌, ◌+◌, ◌≤◌, length, get_or};
 ghost use Rattle.codec.specs.Octets.{all_zero};
-ghost use Rattle.codec.specs.Layout.{country, two_letters, spelled, inside, test, zeroed, write, value, fault};
+ghost use Rattle.codec.specs.Layout.{country, two_letters, spelled, inside, test, write, fault};
 ghost use Rattle.codec.specs.Blocks.{interval, allowed_key_length, uwb_capability, uwb_configuration, uwb_after_key};
 ghost use Rattle.codec.specs.Records.{to_uwb_capability, to_uwb_configuration, of_uwb_capability, of_uwb_configuration};
-ghost use Rattle.codec.specs.Valid.{valid_fields};
-ghost use Rattle.codec.specs.Inner.Puts.{Put, block_if, set_octets, before_key, after_key};
-ghost use Rattle.codec.specs.Inner.Places.{number_in, Roomy, layout_fault};
+ghost use Rattle.codec.specs.Inner.Puts.{Put, set_octets, before_key, after_key};
+ghost use Rattle.codec.specs.Inner.Places.{layout_fault};
 
+use crate::fields::Fields;
 use crate::octets::{
-    all_zero, inside, key_at, pair_at, put, put_key, put_pair, put_u16, put_u32, u16_at, u32_at,
-    zero_from,
+    all_zero, inside, octets_at, padded_at, put, put_first, put_octets, put_u16, put_u32, u16_at,
+    u32_at, zero_from,
 };
-use crate::refusal::{BLOCK_TOO_SMALL, NOT_ALLOWED};
+use crate::refusal::Refusal;
 use crate::sizes::{block_octets, size_fault};
-use crate::technology::UWB;
 
 #[repr(C)]
 #[derive(Clone, Copy)]
@@ -102,166 +101,86 @@ fn allowed_country(pair: [u8; 2]) -> bool
     two_letters(pair) | ((pair[0] == b'0') & (pair[1] == b'0'))
 }
 
-// The first fault in the fields of the capability, 0 for none.
-fn capability_fields_fault(b: &[u8]) -> u8
+// The first fault in the fields of the capability.
+fn capability_fields_fault(b: &[u8]) -> Result<(), Refusal>
     requires { 20 ≤ length b.now }
-    ensures { result ≡ number_in (fault uwb_capability 2 b.now) }
+    ensures { result ≡ fault uwb_capability 2 b.now }
 {
     if !allowed_interval(u16_at(b, 16)) {
-        return NOT_ALLOWED;
+        return Err(Refusal::NotAllowed);
     }
     if !inside(1, 2, b[18]) {
-        return NOT_ALLOWED;
+        return Err(Refusal::NotAllowed);
     }
-    0
+    Ok(())
 }
 
 // The first fault of the block at a place of a message: its size, and then its fields.
-pub(crate) fn capability_fault(m: &[u8], at: usize) -> u8
+pub(crate) fn capability_fault(m: &[u8], at: usize) -> Result<(), Refusal>
     requires { at + 2 ≤ length m.now }
-    ensures { result ≡ number_in (layout_fault uwb_capability m.now at) }
+    ensures { result ≡ layout_fault uwb_capability m.now at }
 {
-    let fault = size_fault(m, at, 20);
-    if fault != 0 {
-        return fault;
-    }
+    size_fault(m, at, 20)?;
     capability_fields_fault(block_octets(m, at))
 }
 
-pub(crate) fn capability(b: &[u8]) -> UwbCapability
-    requires { Roomy uwb_capability 2 b.now }
-    ensures { result ≡ to_uwb_capability (value uwb_capability 2 b.now) }
-{
-    let address = pair_at(b, 2);
-    UwbCapability {
-        address,
-        channels: Channels(u32_at(b, 4)),
-        preamble_indexes: PreambleIndexes(u32_at(b, 8)),
-        config_ids: ConfigIds(u32_at(b, 12)),
-        shortest_interval: u16_at(b, 16),
-        shortest_slot: b[18],
-        roles: b[19],
-    }
-}
-
 // The fields after the key, from the country on.
-fn after_key_fault(b: &[u8], at: usize) -> u8
+fn after_key_fault(b: &[u8], at: usize) -> Result<(), Refusal>
     requires { at + 4 ≤ length b.now }
-    ensures { result ≡ number_in (fault uwb_after_key at b.now) }
+    ensures { result ≡ fault uwb_after_key at b.now }
 {
     let role = at + 2;
     let mode = role + 1;
-    if !allowed_country(pair_at(b, at)) {
-        return NOT_ALLOWED;
+    if !allowed_country(octets_at(b, at)) {
+        return Err(Refusal::NotAllowed);
     }
     if !inside(1, 2, b[role]) {
-        return NOT_ALLOWED;
+        return Err(Refusal::NotAllowed);
     }
     if !inside(1, 2, b[mode]) {
-        return NOT_ALLOWED;
+        return Err(Refusal::NotAllowed);
     }
-    0
+    Ok(())
 }
 
-// The first fault in the fields of the configuration, 0 for none.
-fn configuration_fields_fault(b: &[u8]) -> u8
+// The first fault in the fields of the configuration.
+fn configuration_fields_fault(b: &[u8]) -> Result<(), Refusal>
     requires { 15 ≤ length b.now }
-    ensures { result ≡ number_in (fault uwb_configuration 2 b.now) }
+    ensures { result ≡ fault uwb_configuration 2 b.now }
 {
     if !allowed_interval(u16_at(b, 11)) {
-        return NOT_ALLOWED;
+        return Err(Refusal::NotAllowed);
     }
     if !inside(1, 2, b[13]) {
-        return NOT_ALLOWED;
+        return Err(Refusal::NotAllowed);
     }
     if !allowed_key_length(b[14]) {
-        return NOT_ALLOWED;
+        return Err(Refusal::NotAllowed);
     }
     let country = 15 + b[14] as usize;
     if b.len() < country + 4 {
-        return BLOCK_TOO_SMALL;
+        return Err(Refusal::BlockTooSmall);
     }
     after_key_fault(b, country)
 }
 
 // The first fault of the block at a place of a message: its size, and then its fields.
-pub(crate) fn configuration_fault(m: &[u8], at: usize) -> u8
+pub(crate) fn configuration_fault(m: &[u8], at: usize) -> Result<(), Refusal>
     requires { at + 2 ≤ length m.now }
-    ensures { result ≡ number_in (layout_fault uwb_configuration m.now at) }
+    ensures { result ≡ layout_fault uwb_configuration m.now at }
 {
-    let fault = size_fault(m, at, 15);
-    if fault != 0 {
-        return fault;
-    }
+    size_fault(m, at, 15)?;
     configuration_fields_fault(block_octets(m, at))
 }
 
-pub(crate) fn configuration(b: &[u8]) -> UwbConfiguration
-    requires { Roomy uwb_configuration 2 b.now }
-    ensures { result ≡ to_uwb_configuration (value uwb_configuration 2 b.now) }
-{
-    let k = b[14] as usize;
-    let after = 15 + k;
-    let role = after + 2;
-    let mode = role + 1;
-    let address = pair_at(b, 2);
-    let key = key_at(b, 15, k);
-    let country = pair_at(b, after);
-    UwbConfiguration {
-        address,
-        session_id: u32_at(b, 4),
-        config_id: ConfigId(b[8]),
-        channel: Channel(b[9]),
-        preamble_index: PreambleIndex(b[10]),
-        interval: u16_at(b, 11),
-        slot: b[13],
-        key_length: b[14],
-        key,
-        country,
-        role: b[role],
-        mode: b[mode],
-    }
-}
-
-// Whether the fields are valid: allowed where the technology is present, and else zero.
-pub(crate) fn valid_capability(present: bool, v: UwbCapability) -> bool
-    ensures { result ≡ valid_fields uwb_capability present (of_uwb_capability v) }
-{
-    if present {
-        return allowed_interval(v.shortest_interval) & inside(1, 2, v.shortest_slot);
-    }
-    is_zero_pair(&v.address)
-        & ((v.channels.0 == 0)
-            & ((v.preamble_indexes.0 == 0)
-                & ((v.config_ids.0 == 0)
-                    & ((v.shortest_interval == 0) & ((v.shortest_slot == 0) & (v.roles == 0))))))
-}
-
 // Writes the sets of channels, preamble indexes and config IDs.
-fn put_sets(v: UwbCapability, out: &mut [u8], at: usize) -> usize
+fn put_sets(v: &UwbCapability, out: &mut [u8], at: usize) -> usize
     requires { at + 12 ≤ length out.old }
-    ensures { Put out.old at (set_octets v) out.new result }
+    ensures { Put out.old at (set_octets v.now) out.new result }
 {
     let preamble_indexes = put_u32(out, at, v.channels.0);
     let config_ids = put_u32(out, preamble_indexes, v.preamble_indexes.0);
     put_u32(out, config_ids, v.config_ids.0)
-}
-
-// Writes the block where the technology is present.
-pub(crate) fn put_capability(present: bool, v: UwbCapability, out: &mut [u8], at: usize) -> usize
-    requires { at + cond present 20 0 ≤ length out.old }
-    ensures { Put out.old at (block_if present uwb_capability 0 (of_uwb_capability v)) out.new result }
-{
-    if !present {
-        return at;
-    }
-    let size = put(out, at, UWB);
-    let fields = put(out, size, 20);
-    let channels = put_pair(out, fields, &v.address);
-    let interval = put_sets(v, out, channels);
-    let slot = put_u16(out, interval, v.shortest_interval);
-    let roles = put(out, slot, v.shortest_slot);
-    put(out, roles, v.roles)
 }
 
 fn is_zero_pair(pair: &[u8; 2]) -> bool
@@ -276,42 +195,10 @@ fn is_zero_key(key: &[u8; 32]) -> bool
     all_zero(key)
 }
 
-fn is_zero_key_from(key: &[u8; 32], from: usize) -> bool
-    requires { from ≤ 32 }
-    ensures { result ≡ all_zero (drop from key.now) }
-{
-    zero_from(key, from)
-}
-
-fn is_zero_configuration(v: UwbConfiguration) -> bool
-    ensures { result ≡ zeroed uwb_configuration (of_uwb_configuration v) }
-{
-    let ids = (v.session_id == 0)
-        & ((v.config_id.0 == 0) & ((v.channel.0 == 0) & (v.preamble_index.0 == 0)));
-    let timing = (v.interval == 0) & ((v.slot == 0) & (v.key_length == 0));
-    let last = is_zero_pair(&v.country) & ((v.role == 0) & (v.mode == 0));
-    is_zero_pair(&v.address) & (ids & (timing & (is_zero_key(&v.key) & last)))
-}
-
-pub(crate) fn valid_configuration(present: bool, v: UwbConfiguration) -> bool
-    ensures { result ≡ valid_fields uwb_configuration present (of_uwb_configuration v) }
-{
-    if !present {
-        return is_zero_configuration(v);
-    }
-    if !allowed_key_length(v.key_length) {
-        return false;
-    }
-    let country = v.country;
-    let k = v.key_length as usize;
-    let last = inside(1, 2, v.role) & (inside(1, 2, v.mode) & is_zero_key_from(&v.key, k));
-    allowed_interval(v.interval) & (inside(1, 2, v.slot) & (allowed_country(country) & last))
-}
-
 // Writes the fields after the address and before the key.
-fn put_before_key(v: UwbConfiguration, out: &mut [u8], at: usize) -> usize
+fn put_before_key(v: &UwbConfiguration, out: &mut [u8], at: usize) -> usize
     requires { at + 10 ≤ length out.old }
-    ensures { Put out.old at (before_key v) out.new result }
+    ensures { Put out.old at (before_key v.now) out.new result }
 {
     let config_id = put_u32(out, at, v.session_id);
     let channel = put(out, config_id, v.config_id.0);
@@ -322,33 +209,161 @@ fn put_before_key(v: UwbConfiguration, out: &mut [u8], at: usize) -> usize
 }
 
 // Writes the fields after the key.
-fn put_after_key(v: UwbConfiguration, out: &mut [u8], at: usize) -> usize
+fn put_after_key(v: &UwbConfiguration, out: &mut [u8], at: usize) -> usize
     requires { at + 4 ≤ length out.old }
-    ensures { Put out.old at (write uwb_after_key (after_key v)) out.new result × (length v.country ≡ 2) }
+    ensures { Put out.old at (write uwb_after_key (after_key v.now)) out.new result × (length v.now.country ≡ 2) }
 {
-    let role = put_pair(out, at, &v.country);
+    let role = put_octets(out, at, &v.country);
     let mode = put(out, role, v.role);
     put(out, mode, v.mode)
 }
 
-pub(crate) fn put_configuration(
-    present: bool,
-    v: UwbConfiguration,
-    out: &mut [u8],
-    at: usize,
-) -> usize
-    requires { (at + cond present (19 + v.key_length) 0 ≤ length out.old) × (v.key_length ≤ 32) }
-    ensures { Put out.old at (block_if present uwb_configuration 0 (of_uwb_configuration v)) out.new result }
-{
-    if !present {
-        return at;
+impl Fields for UwbCapability {
+    ghost layout = { uwb_capability };
+
+    ghost made = { to_uwb_capability };
+
+    ghost values = { of_uwb_capability };
+
+    fn zero() -> UwbCapability {
+        UwbCapability {
+            address: [0; 2],
+            channels: Channels(0),
+            preamble_indexes: PreambleIndexes(0),
+            config_ids: ConfigIds(0),
+            shortest_interval: 0,
+            shortest_slot: 0,
+            roles: 0,
+        }
     }
-    let k = v.key_length as usize;
-    let size = put(out, at, UWB);
-    let fields = put(out, size, 19 + v.key_length);
-    let session_id = put_pair(out, fields, &v.address);
-    let key_length = put_before_key(v, out, session_id);
-    let octets = put(out, key_length, v.key_length);
-    let country = put_key(out, octets, &v.key, k);
-    put_after_key(v, out, country)
+
+    fn has_room(b: &[u8]) -> bool {
+        20 <= b.len()
+    }
+
+    fn read(b: &[u8]) -> UwbCapability {
+        let address = octets_at(b, 2);
+        UwbCapability {
+            address,
+            channels: Channels(u32_at(b, 4)),
+            preamble_indexes: PreambleIndexes(u32_at(b, 8)),
+            config_ids: ConfigIds(u32_at(b, 12)),
+            shortest_interval: u16_at(b, 16),
+            shortest_slot: b[18],
+            roles: b[19],
+        }
+    }
+
+    fn is_allowed(&self) -> bool {
+        allowed_interval(self.shortest_interval) & inside(1, 2, self.shortest_slot)
+    }
+
+    fn is_zero(&self) -> bool {
+        let numbers = (self.shortest_interval == 0)
+            & ((self.shortest_slot == 0) & (self.roles == 0));
+        is_zero_pair(&self.address)
+            & ((self.channels.0 == 0)
+                & ((self.preamble_indexes.0 == 0) & ((self.config_ids.0 == 0) & numbers)))
+    }
+
+    fn size(&self) -> u8 {
+        20
+    }
+
+    fn put_fields(&self, out: &mut [u8], at: usize) -> usize {
+        let channels = put_octets(out, at, &self.address);
+        let interval = put_sets(self, out, channels);
+        let slot = put_u16(out, interval, self.shortest_interval);
+        let roles = put(out, slot, self.shortest_slot);
+        put(out, roles, self.roles)
+    }
+}
+
+impl Fields for UwbConfiguration {
+    ghost layout = { uwb_configuration };
+
+    ghost made = { to_uwb_configuration };
+
+    ghost values = { of_uwb_configuration };
+
+    fn zero() -> UwbConfiguration {
+        UwbConfiguration {
+            address: [0; 2],
+            session_id: 0,
+            config_id: ConfigId(0),
+            channel: Channel(0),
+            preamble_index: PreambleIndex(0),
+            interval: 0,
+            slot: 0,
+            key_length: 0,
+            key: [0; 32],
+            country: [0; 2],
+            role: 0,
+            mode: 0,
+        }
+    }
+
+    fn has_room(b: &[u8]) -> bool {
+        if b.len() < 19 {
+            return false;
+        }
+        let k = b[14];
+        (k <= 32) & (19 + k as usize <= b.len())
+    }
+
+    fn read(b: &[u8]) -> UwbConfiguration {
+        let k = b[14] as usize;
+        let after = 15 + k;
+        let role = after + 2;
+        let mode = role + 1;
+        let address = octets_at(b, 2);
+        let key = padded_at(b, 15, k);
+        let country = octets_at(b, after);
+        UwbConfiguration {
+            address,
+            session_id: u32_at(b, 4),
+            config_id: ConfigId(b[8]),
+            channel: Channel(b[9]),
+            preamble_index: PreambleIndex(b[10]),
+            interval: u16_at(b, 11),
+            slot: b[13],
+            key_length: b[14],
+            key,
+            country,
+            role: b[role],
+            mode: b[mode],
+        }
+    }
+
+    fn is_allowed(&self) -> bool {
+        if !allowed_key_length(self.key_length) {
+            return false;
+        }
+        let country = self.country;
+        let k = self.key_length as usize;
+        let last = inside(1, 2, self.role) & (inside(1, 2, self.mode) & zero_from(&self.key, k));
+        allowed_interval(self.interval)
+            & (inside(1, 2, self.slot) & (allowed_country(country) & last))
+    }
+
+    fn is_zero(&self) -> bool {
+        let ids = (self.session_id == 0)
+            & ((self.config_id.0 == 0) & ((self.channel.0 == 0) & (self.preamble_index.0 == 0)));
+        let timing = (self.interval == 0) & ((self.slot == 0) & (self.key_length == 0));
+        let last = is_zero_pair(&self.country) & ((self.role == 0) & (self.mode == 0));
+        is_zero_pair(&self.address) & (ids & (timing & (is_zero_key(&self.key) & last)))
+    }
+
+    fn size(&self) -> u8 {
+        19 + self.key_length
+    }
+
+    fn put_fields(&self, out: &mut [u8], at: usize) -> usize {
+        let k = self.key_length as usize;
+        let session_id = put_octets(out, at, &self.address);
+        let key_length = put_before_key(self, out, session_id);
+        let octets = put(out, key_length, self.key_length);
+        let country = put_first(out, octets, &self.key, k);
+        put_after_key(self, out, country)
+    }
 }

@@ -1,69 +1,65 @@
 // Validity of what a record holds.
 ghost use Rattle.std.specs.Prelude.{◌≡◌};
-ghost use Rattle.codec.specs.Blocks.{capabilities, configurations};
 ghost use Rattle.codec.specs.Records.{response, only};
-ghost use Rattle.codec.specs.Valid.{valid_column, valid};
+ghost use Rattle.codec.specs.Valid.{valid_fields, valid_column, valid};
 ghost use Rattle.codec.specs.Inner.Puts.{rest_zero};
 
-use crate::records::{Capability, Configuration};
+use crate::columns::Column;
+use crate::fields::Fields;
+use crate::records::Capability;
 use crate::technology::{CS, NAN, RSSI, SET_LIMIT, UWB, has};
-use crate::{cs, nan, rssi, uwb};
+
+// Whether the fields of a block are valid: allowed where the technology is present, and else zero.
+fn valid_block<F: Fields>(present: bool, block: &F) -> bool
+    ensures { result ≡ valid_fields F.layout present (F.values block.now) }
+{
+    if present {
+        return block.is_allowed();
+    }
+    block.is_zero()
+}
 
 // Whether the fields of the technologies in a set are allowed, and all others zero.
-pub(crate) fn valid_capability(set: u16, c: Capability) -> bool
-    ensures { result ≡ valid_column capabilities set c }
+pub(crate) fn valid_column<C: Column>(set: u16, c: &C) -> bool
+    ensures { result ≡ valid_column C.column set (C.kept c.now) }
 {
-    let uwb = uwb::valid_capability(has(set, UWB), c.uwb);
-    let cs = cs::valid_capability(has(set, CS), c.cs);
-    let nan = nan::valid_capability(has(set, NAN), c.nan);
-    let rssi = rssi::valid_block(has(set, RSSI), c.rssi);
+    let uwb = valid_block(has(set, UWB), c.uwb());
+    let cs = valid_block(has(set, CS), c.cs());
+    let nan = valid_block(has(set, NAN), c.nan());
+    let rssi = valid_block(has(set, RSSI), c.rssi());
     uwb & (cs & (nan & rssi))
 }
 
-pub(crate) fn valid_configuration(set: u16, c: Configuration) -> bool
-    ensures { result ≡ valid_column configurations set c }
+// Whether all fields are zero.
+pub fn is_zero<C: Column>(c: &C) -> bool
+    ensures { result ≡ valid_column C.column 0 (C.kept c.now) }
 {
-    let uwb = uwb::valid_configuration(has(set, UWB), c.uwb);
-    let cs = cs::valid_configuration(has(set, CS), c.cs);
-    let nan = nan::valid_configuration(has(set, NAN), c.nan);
-    let rssi = rssi::valid_block(has(set, RSSI), c.rssi);
-    uwb & (cs & (nan & rssi))
+    c.uwb().is_zero() & (c.cs().is_zero() & (c.nan().is_zero() & c.rssi().is_zero()))
 }
 
 // Whether a Capability Response with these blocks is valid.
 pub fn valid_response(set: u16, c: Capability) -> bool
     ensures { result ≡ valid (response set c) }
 {
-    (set < SET_LIMIT) & valid_capability(set, c)
+    (set < SET_LIMIT) & valid_column(set, &c)
 }
 
 // Whether a Capability Response with those of these blocks that the set names is valid.
-pub(crate) fn valid_only(set: u16, c: Capability) -> bool
-    ensures { result ≡ valid (response set (only set c)) }
+pub(crate) fn valid_only(set: u16, c: &Capability) -> bool
+    ensures { result ≡ valid (response set (only set c.now)) }
 {
-    let uwb = !has(set, UWB) | uwb::valid_capability(true, c.uwb);
-    let nan = !has(set, NAN) | nan::valid_capability(true, c.nan);
+    let uwb = !has(set, UWB) | c.uwb.is_allowed();
+    let nan = !has(set, NAN) | c.nan.is_allowed();
     (set < SET_LIMIT) & (uwb & nan)
 }
 
 // Whether the fields of the technologies that a set leaves out are zero.
-pub(crate) fn rest_zero(set: u16, c: Capability) -> bool
-    ensures { result ≡ rest_zero set c }
+pub(crate) fn rest_zero(set: u16, c: &Capability) -> bool
+    ensures { result ≡ rest_zero set c.now }
 {
-    let uwb = has(set, UWB) | uwb::valid_capability(false, c.uwb);
-    let cs = has(set, CS) | cs::valid_capability(false, c.cs);
-    let nan = has(set, NAN) | nan::valid_capability(false, c.nan);
-    let rssi = has(set, RSSI) | rssi::valid_block(false, c.rssi);
-    uwb & (cs & (nan & rssi))
-}
-
-// Whether all fields are zero, as in every record but a Configuration.
-pub fn is_zero_configuration(c: Configuration) -> bool
-    ensures { result ≡ valid_column configurations 0 c }
-{
-    let uwb = uwb::valid_configuration(false, c.uwb);
-    let cs = cs::valid_configuration(false, c.cs);
-    let nan = nan::valid_configuration(false, c.nan);
-    let rssi = rssi::valid_block(false, c.rssi);
+    let uwb = has(set, UWB) | c.uwb.is_zero();
+    let cs = has(set, CS) | c.cs.is_zero();
+    let nan = has(set, NAN) | c.nan.is_zero();
+    let rssi = has(set, RSSI) | c.rssi.is_zero();
     uwb & (cs & (nan & rssi))
 }

@@ -1,73 +1,67 @@
 // The writer: the normal form of a valid record, into the first octets of a lent buffer.
-ghost use Rattle.std.specs.Prelude.{◌≡◌, true, cond, ◌+◌, ◌≤◌, length};
-ghost use Rattle.codec.specs.Blocks.{capabilities, configurations};
+ghost use Rattle.std.specs.Prelude.{◌≡◌, true, cond, ◌+◌, ◌≤◌, ◌<◌, length};
+ghost use Rattle.codec.specs.Layout.{write};
+ghost use Rattle.codec.specs.Refusal.{number_of};
 ghost use Rattle.codec.specs.Table.{assigned, row};
 ghost use Rattle.codec.specs.Inner.Places.{set_alone};
 ghost use Rattle.codec.specs.Records.{response, only, settings_record, without_blocks, set_record};
 ghost use Rattle.codec.specs.Writing.{Writes, WritesTyped};
-ghost use Rattle.codec.specs.Inner.Puts.{Put, head, column_octets, column_size, Fit};
+ghost use Rattle.codec.specs.Inner.Puts.{Put, block_if, head, column_octets, Held, Fits};
 
+use crate::columns::Column;
+use crate::fields::Fields;
 use crate::message::{CAPABILITY_RESPONSE, CONFIGURATION, assigned};
 use crate::octets::{put, put_u16};
 use crate::records::{Capability, Configuration, Record, SetMessage, Written, message_id};
-use crate::refusal::{BUFFER_TOO_SHORT, NOT_VALID};
+use crate::refusal::Refusal;
 use crate::technology::{CS, NAN, RSSI, SET_LIMIT, UWB, has};
-use crate::validity::{
-    is_zero_configuration, rest_zero, valid_capability, valid_configuration, valid_only,
-};
-use crate::{cs, nan, rssi, uwb};
+use crate::validity::{is_zero, rest_zero, valid_column, valid_only};
 
 // How many octets a block takes, if it is there.
-fn size_if(present: bool, size: usize) -> usize
-    ensures { (result ≡ cond present size 0) × (result ≤ size) }
+fn size_if<F: Fields>(present: bool, block: &F) -> usize
+    requires { Held F.layout (F.values block.now) }
+    ensures { (result ≡ cond present (2 + length (write F.layout (F.values block.now))) 0) × (result < 256) }
 {
-    if present { size } else { 0 }
+    if !present {
+        return 0;
+    }
+    block.size() as usize
 }
 
-// How many octets the blocks of a set take in message 1.
-fn size_capability(set: u16) -> usize
-    ensures { ((c : Capability) → result ≡ column_size capabilities set c) × (result ≤ 43) }
+// How many octets the blocks of a set take.
+fn size_blocks<C: Column>(set: u16, c: &C) -> usize
+    requires { Fits C.column (C.kept c.now) }
+    ensures { (result ≡ length (column_octets C.column set (C.kept c.now))) × (result < 1024) }
 {
-    let uwb = size_if(has(set, UWB), 20);
-    let cs = size_if(has(set, CS), 9);
-    let nan = size_if(has(set, NAN), 6);
-    let rssi = size_if(has(set, RSSI), 8);
+    let uwb = size_if(has(set, UWB), c.uwb());
+    let cs = size_if(has(set, CS), c.cs());
+    let nan = size_if(has(set, NAN), c.nan());
+    let rssi = size_if(has(set, RSSI), c.rssi());
     uwb + (cs + (nan + rssi))
 }
 
-// How many octets the blocks of a set take in message 2.
-fn size_configuration(set: u16, c: Configuration) -> usize
-    ensures { (result ≡ column_size configurations set c) × (result ≤ 551) }
+// Writes a block, if it is there.
+fn put_block<F: Fields>(present: bool, id: u8, block: &F, out: &mut [u8], at: usize) -> usize
+    requires { (at + length (block_if present F.layout id (F.values block.now)) ≤ length out.old) × Held F.layout (F.values block.now) }
+    ensures { Put out.old at (block_if present F.layout id (F.values block.now)) out.new result }
 {
-    let uwb = size_if(has(set, UWB), 19 + c.uwb.key_length as usize);
-    let cs = size_if(has(set, CS), 9);
-    let nan = size_if(has(set, NAN), 5 + c.nan.name_length as usize);
-    let rssi = size_if(has(set, RSSI), 8);
-    uwb + (cs + (nan + rssi))
+    if !present {
+        return at;
+    }
+    let size = put(out, at, id);
+    let fields = put(out, size, block.size());
+    block.put_fields(out, fields)
 }
 
-// Writes the blocks of a set in message 1.
-fn put_capability(set: u16, c: Capability, out: &mut [u8], at: usize) -> usize
-    requires { at + length (column_octets capabilities set c) ≤ length out.old }
-    ensures { Put out.old at (column_octets capabilities set c) out.new result }
+// Writes the blocks of a set.
+fn put_blocks<C: Column>(set: u16, c: &C, out: &mut [u8], at: usize) -> usize
+    requires { (at + length (column_octets C.column set (C.kept c.now)) ≤ length out.old) × Fits C.column (C.kept c.now) }
+    ensures { Put out.old at (column_octets C.column set (C.kept c.now)) out.new result }
 {
-    let address = c.cs.address;
-    let cs = uwb::put_capability(has(set, UWB), c.uwb, out, at);
-    let nan = cs::put_block(has(set, CS), c.cs.security_types, address, out, cs);
-    let rssi = nan::put_capability(has(set, NAN), c.nan, out, nan);
-    rssi::put_block(has(set, RSSI), c.rssi, out, rssi)
-}
-
-// Writes the blocks of a set in message 2.
-fn put_configuration(set: u16, c: Configuration, out: &mut [u8], at: usize) -> usize
-    requires { (at + length (column_octets configurations set c) ≤ length out.old) × Fit c }
-    ensures { Put out.old at (column_octets configurations set c) out.new result }
-{
-    let address = c.cs.address;
-    let cs = uwb::put_configuration(has(set, UWB), c.uwb, out, at);
-    let nan = cs::put_block(has(set, CS), c.cs.security_level, address, out, cs);
-    let rssi = nan::put_configuration(has(set, NAN), c.nan, out, nan);
-    rssi::put_block(has(set, RSSI), c.rssi, out, rssi)
+    let cs = put_block(has(set, UWB), UWB, c.uwb(), out, at);
+    let nan = put_block(has(set, CS), CS, c.cs(), out, cs);
+    let rssi = put_block(has(set, NAN), NAN, c.nan(), out, nan);
+    put_block(has(set, RSSI), RSSI, c.rssi(), out, rssi)
 }
 
 // Writes the version, the message ID and the set.
@@ -80,11 +74,11 @@ fn put_head(id: u8, set: u16, out: &mut [u8]) -> usize
     put_u16(out, first, set)
 }
 
-fn refused(number: u8) -> Written
-    ensures { result ≡ record { refusal = number; length = 0 } }
+fn refused(refusal: Refusal) -> Written
+    ensures { result ≡ record { refusal = number_of refusal; length = 0 } }
 {
     Written {
-        refusal: number,
+        refusal: u8::from(refusal),
         length: 0,
     }
 }
@@ -93,32 +87,38 @@ fn refused(number: u8) -> Written
 pub fn write_capability_response(set: u16, c: Capability, out: &mut [u8]) -> Written
     ensures { Writes (response set (only set c)) out.old result out.new }
 {
+    write_response(set, &c, out)
+}
+
+fn write_response(set: u16, c: &Capability, out: &mut [u8]) -> Written
+    ensures { Writes (response set (only set c.now)) out.old result out.new }
+{
     if !valid_only(set, c) {
-        return refused(NOT_VALID);
+        return refused(Refusal::NotValid);
     }
-    let length = 4 + size_capability(set);
+    let length = 4 + size_blocks(set, c);
     if out.len() < length {
-        return refused(BUFFER_TOO_SHORT);
+        return refused(Refusal::BufferTooShort);
     }
     let blocks = put_head(CAPABILITY_RESPONSE, set, out);
-    put_capability(set, c, out, blocks);
+    put_blocks(set, c, out, blocks);
     Written { refusal: 0, length }
 }
 
 // Writes a Configuration with these blocks, as `write` does.
-fn write_configuration(set: u16, c: Configuration, out: &mut [u8]) -> Written
-    ensures { Writes (settings_record set c) out.old result out.new }
+fn write_configuration(set: u16, c: &Configuration, out: &mut [u8]) -> Written
+    ensures { Writes (settings_record set c.now) out.old result out.new }
 {
-    if !((set < SET_LIMIT) & valid_configuration(set, c)) {
-        return refused(NOT_VALID);
+    if !((set < SET_LIMIT) & valid_column(set, c)) {
+        return refused(Refusal::NotValid);
     }
-    let length = 6 + size_configuration(set, c);
+    let length = 6 + size_blocks(set, c);
     if out.len() < length {
-        return refused(BUFFER_TOO_SHORT);
+        return refused(Refusal::BufferTooShort);
     }
     let again = put_head(CONFIGURATION, set, out);
     let blocks = put_u16(out, again, set);
-    put_configuration(set, c, out, blocks);
+    put_blocks(set, c, out, blocks);
     Written { refusal: 0, length }
 }
 
@@ -128,10 +128,10 @@ fn write_without_blocks(id: u8, set: u16, out: &mut [u8]) -> Written
     ensures { Writes (without_blocks id set) out.old result out.new }
 {
     if set >= SET_LIMIT {
-        return refused(NOT_VALID);
+        return refused(Refusal::NotValid);
     }
     if out.len() < 4 {
-        return refused(BUFFER_TOO_SHORT);
+        return refused(Refusal::BufferTooShort);
     }
     put_head(id, set, out);
     Written {
@@ -153,20 +153,20 @@ pub fn write(value: Record, out: &mut [u8]) -> Written
     ensures { WritesTyped value out.old result out.new }
 {
     if value.id == CAPABILITY_RESPONSE {
-        let rest = rest_zero(value.set, value.capability);
-        if !(rest & is_zero_configuration(value.configuration)) {
-            return refused(NOT_VALID);
+        let rest = rest_zero(value.set, &value.capability);
+        if !(rest & is_zero(&value.configuration)) {
+            return refused(Refusal::NotValid);
         }
-        return write_capability_response(value.set, value.capability, out);
+        return write_response(value.set, &value.capability, out);
     }
-    if !valid_capability(0, value.capability) {
-        return refused(NOT_VALID);
+    if !is_zero(&value.capability) {
+        return refused(Refusal::NotValid);
     }
     if value.id == CONFIGURATION {
-        return write_configuration(value.set, value.configuration, out);
+        return write_configuration(value.set, &value.configuration, out);
     }
-    if !(assigned(value.id) & is_zero_configuration(value.configuration)) {
-        return refused(NOT_VALID);
+    if !(assigned(value.id) & is_zero(&value.configuration)) {
+        return refused(Refusal::NotValid);
     }
     write_without_blocks(value.id, value.set, out)
 }

@@ -5,7 +5,7 @@ use mathlib.Core.List.{List, map}
 use mathlib.Core.Bool.{true, ◌&&◌}
 use lib.Dec.{eqb, ltb}
 use borrow.Author.Tests.{eqb-true}
-use Rattle.codec.specs.Refusal.{not_valid}
+use Rattle.codec.specs.declared.refusal.Refusal.TheVariants.{NotValid}
 use Rattle.codec.specs.Records.{response}
 use Rattle.codec.specs.Valid.{valid}
 use Rattle.codec.specs.declared.records.Record.{Record}
@@ -58,5 +58,5 @@ profile_valid r n h =
 
 pub demand_3 : Demand3
 demand_3 r n x h z events e ran =
-    let t = by_bool (is_profile r n) (λ t. t) (λ f. absurd (no_zero not_valid (sym (ap (λ (y : Started). y.refusal) (h ∙ ap started (start_refused r n f))) ∙ z))) in
+    let t = by_bool (is_profile r n) (λ t. t) (λ f. absurd (no_zero NotValid (sym (ap (λ (y : Started). y.refusal) (h ∙ ap started (start_refused r n f))) ∙ z))) in
     from_fresh (as_profile r n) (profile_valid r n t) events e (subst (λ (s : Session). Ran s events e) (ap (λ (y : Started). y.session) (h ∙ ap started (start_accepted r n t))) ran)

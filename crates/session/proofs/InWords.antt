@@ -8,7 +8,8 @@ use mathlib.Core.Logic.{◌↔◌, inl, inr}
 use mathlib.Core.Bool.{Bool, true, false, cond, not, ◌&&◌, true≢false, and-true as Bool·and-true, and-false, or-true, or-false}
 use lib.ListN.{length, length-append}
 use borrow.Author.Tests.{not-true}
-use Rattle.codec.specs.Refusal.{Checked, accept}
+use Rattle.std.specs.Prelude.{Ok}
+use Rattle.codec.specs.Refusal.{Checked}
 use Rattle.codec.specs.WellFormed.{Has}
 use Rattle.codec.specs.NormalForm.{blocks_of}
 use Rattle.codec.specs.declared.records.Record.{Record}
@@ -105,7 +106,7 @@ module _ (p : Profile) where
         unfolding ended_by
         put_mark u e = marked (accepted_gives p l e.stops.accepted) ∙ rw (barring, e.stops.named, e.ranged, or-true (l t).mark)
 
-        given : (wanted : Technology → Bool) → ledger_call p l c ≡ accept (give_out on_ledger p wanted l) → (shows p wanted t ≡ true → GivesOut p t c) → (GivesOut p t c → shows p wanted t ≡ true) → (Ends p InForce t before c → ⊥) → Turn mark Puts (GivesOut p t) before c
+        given : (wanted : Technology → Bool) → ledger_call p l c ≡ Ok (give_out on_ledger p wanted l) → (shows p wanted t ≡ true → GivesOut p t c) → (GivesOut p t c → shows p wanted t ≡ true) → (Ends p InForce t before c → ⊥) → Turn mark Puts (GivesOut p t) before c
         given wanted e to from un = by_bool (shows p wanted t)
             (λ y. drops (to y) (marked e ∙ rw (y, and-false (l t).mark)))
             (λ n. leaves (λ g. clash (from g) n) (λ u. un) (marked e ∙ rw (n, Bool·and-true (l t).mark)))

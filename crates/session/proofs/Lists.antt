@@ -3,7 +3,8 @@ use Prim.Native.Nat.{ℕ}
 use mathlib.Core.Path.{◌≡◌, refl, sym, subst}
 use mathlib.Core.List.{List, [], ◌∷◌, map}
 use mathlib.Core.Bool.{true}
-use Rattle.codec.specs.Refusal.{Checked, refuse, accept}
+use Rattle.std.specs.Prelude.{Err, Ok}
+use Rattle.codec.specs.Refusal.{Checked}
 use Rattle.session.specs.declared.state.Profile.{Profile}
 use Rattle.session.specs.declared.state.Answer.{Answer}
 use Rattle.session.specs.declared.state.Session.{Session}
@@ -23,8 +24,8 @@ module _ (p : Profile) where
 
   -- what a call gives that leads to what a ledger's leads to
   given : (l : Ledger) (o : Checked (Served Ledger)) {b e : List ℕ} {a : Answer} {n : Session} → Gives (session_of p l) (through (session_of p) o) b a n e → (a ≡ answer_to o) × (n ≡ session_of p (after l o)) × (e ≡ buffer_after o b)
-  given l (refuse x) g = (g.answer, g.session, g.buffer)
-  given l (accept v) g = (g.answer, g.session, g.buffer)
+  given l (Err x) g = (g.answer, g.session, g.buffer)
+  given l (Ok v) g = (g.answer, g.session, g.buffer)
 
   pub ran_as_ledger : valid_profile p ≡ true → (events : List Event) (l : Ledger) (e : Session) → ((t : Technology) → Regular t (l t)) → Ran (session_of p l) events e
       → (map seen_of events ≡ seen_from (ledger_call p) l (calls_of events)) × (e ≡ session_of p (state_after (ledger_call p) l (calls_of events)))

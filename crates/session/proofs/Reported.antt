@@ -7,7 +7,8 @@ use mathlib.Core.Logic.{◌↔◌, inl, inr}
 use mathlib.Core.Bool.{Bool, true, false, cond, true≢false}
 use lib.ListN.{take, drop, get_or}
 use lib.Seq.{take_at}
-use Rattle.codec.specs.Refusal.{Checked, accept}
+use Rattle.std.specs.Prelude.{Ok}
+use Rattle.codec.specs.Refusal.{Checked}
 use Rattle.codec.specs.NormalForm.{normal}
 use Rattle.codec.specs.declared.records.Capability.{Capability}
 use Rattle.codec.specs.declared.records.Record.{Record}
@@ -31,7 +32,7 @@ nobody t h = absurd (true≢false (sym h ∙ names_naming (λ t. false) t))
 abbrev wrote : {S : Type 0} → Checked (Served S) → List ℕ → List ℕ
 wrote o b = take (answer_to o).length (buffer_after o b)
 
-wrote_reply : {S : Type 0} (v : Served S) (b : List ℕ) → wrote (accept v) b ≡ octets_of v.reply
+wrote_reply : {S : Type 0} (v : Served S) (b : List ℕ) → wrote (Ok v) b ≡ octets_of v.reply
 unfolding replied
 wrote_reply v b = take_at (octets_of v.reply) _ _ refl
 

@@ -5,7 +5,8 @@ use mathlib.Core.Option.{Option, none, some}
 use mathlib.Core.Bool.{Bool, true, false, cond, not, ◌&&◌, ◌||◌, and-true, and-false, or-true, or-false}
 use lib.Dec.{leb}
 use lib.ListN.{length}
-use Rattle.codec.specs.Refusal.{Checked, refuse, accept, and_then}
+use Rattle.std.specs.Prelude.{Err, Ok}
+use Rattle.codec.specs.Refusal.{Checked, and_then}
 use Rattle.codec.specs.Message.{reading}
 use Rattle.codec.specs.declared.records.Configuration.{Configuration}
 use Rattle.codec.specs.declared.records.Record.{Record}
@@ -34,8 +35,8 @@ module _ {S T : Type 0} (f : S → T) where
   carried v = record { state = f v.state; reply = v.reply; set = v.set; stopped = v.stopped }
 
   abbrev pub through : Checked (Served S) → Checked (Served T)
-  through (refuse x) = refuse x
-  through (accept v) = accept (carried v)
+  through (Err x) = Err x
+  through (Ok v) = Ok (carried v)
 
   module _ (on : Operations S) (under : Operations T) (p : Profile) (s : S) (F : Follows on under f s) where
     give_through : (wanted : Technology → Bool) → give_out under p wanted (f s) ≡ carried (give_out on p wanted s)
@@ -58,22 +59,22 @@ module _ {S T : Type 0} (f : S → T) where
     unfolding respond
     respond_through (message m) = go (reading m)
       where
-        by_kind : (r : Record) (o : Checked Kind) → (and_then o λ k. accept (serve under p k r (f s))) ≡ through (and_then o λ k. accept (serve on p k r s))
-        by_kind r (refuse x) = refl
-        by_kind r (accept k) = ap (λ (v : Served T). accept v) (serve_through k r)
+        by_kind : (r : Record) (o : Checked Kind) → (and_then o λ k. Ok (serve under p k r (f s))) ≡ through (and_then o λ k. Ok (serve on p k r s))
+        by_kind r (Err x) = refl
+        by_kind r (Ok k) = ap (λ (v : Served T). Ok v) (serve_through k r)
 
-        go : (o : Checked Record) → (and_then o λ r. and_then (kind_of r.id) λ k. accept (serve under p k r (f s))) ≡ through (and_then o λ r. and_then (kind_of r.id) λ k. accept (serve on p k r s))
-        go (refuse x) = refl
-        go (accept r) = by_kind r (kind_of r.id)
-    respond_through advertisement = ap (λ (v : Served T). accept v) (give_through (λ t. true))
+        go : (o : Checked Record) → (and_then o λ r. and_then (kind_of r.id) λ k. Ok (serve under p k r (f s))) ≡ through (and_then o λ r. and_then (kind_of r.id) λ k. Ok (serve on p k r s))
+        go (Err x) = refl
+        go (Ok r) = by_kind r (kind_of r.id)
+    respond_through advertisement = ap (λ (v : Served T). Ok v) (give_through (λ t. true))
 
     pub call_through : (c : Call) → call under p (f s) c ≡ through (call on p s c)
     unfolding call conclude
     call_through c = ap (λ (o : Checked (Served T)). and_then o (conclude c.lent)) (respond_through c.said) ∙ go (respond on p s c.said)
       where
         go : (o : Checked (Served S)) → and_then (through o) (conclude c.lent) ≡ through (and_then o (conclude c.lent))
-        go (refuse x) = refl
-        go (accept v) = by_bool (leb (length (octets_of v.reply)) (length c.lent)) (λ t. rw t) (λ t. rw t)
+        go (Err x) = refl
+        go (Ok v) = by_bool (leb (length (octets_of v.reply)) (length c.lent)) (λ t. rw t) (λ t. rw t)
 
 -- ---- a ledger's cell told by a part of the session record
 

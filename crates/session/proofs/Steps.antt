@@ -9,7 +9,10 @@ use lib.Dec.{eqb, ltb, leb}
 use lib.ListN.{length}
 use borrow.Author.Tests.{lt-ltb, ne_eqb, eqb-true}
 use Rattle.codec.specs.Layout.{Layout, Values}
-use Rattle.codec.specs.Refusal.{Refusal, Checked, refuse, accept, demand, and_then, number_of, not_for_tag, not_valid}
+use Rattle.std.specs.Prelude.{Err, Ok}
+use Rattle.codec.specs.Refusal.{Checked, demand, and_then, number_of}
+use Rattle.codec.specs.declared.refusal.Refusal.{Refusal}
+use Rattle.codec.specs.declared.refusal.Refusal.TheVariants.{NotForTag, NotValid}
 use Rattle.codec.specs.Blocks.{capabilities, configurations, cell}
 use Rattle.codec.specs.Records.{blank, response, only, set_record, answer, fields}
 use Rattle.codec.specs.Message.{reading}
@@ -38,7 +41,7 @@ use Rattle.codec.proofs.SetLaws.{naming_below, names_naming}
 abbrev Refuses : Session → Checked (Served Session) → List ℕ → ℕ → Type 0
 Refuses s o b n = Gives s o b (record { refusal = n; length = 0; set = 0; stopped = 0 }) s b
 
-refuses : {s : Session} {b : List ℕ} (x : Refusal) → Refuses s (refuse x) b (number_of x)
+refuses : {s : Session} {b : List ℕ} (x : Refusal) → Refuses s (Err x) b (number_of x)
 refuses x = record { answer = refl; session = refl; buffer = refl }
 
 -- ---- a valid reply is delivered
@@ -145,13 +148,13 @@ ended_set p set s = rw (and-false (bit set 1))
 
 pub invalid : (s : Session) (c : Call) → valid_profile s.profile ≡ false → Refuses s (session_call s c) c.lent 12
 unfolding session_call
-invalid s c h = rw h (refuses not_valid)
+invalid s c h = rw h (refuses NotValid)
 
 -- the kind of message 2
-configured : (id : ℕ) → kind_of id ≡ accept configuration → id ≡ 2
+configured : (id : ℕ) → kind_of id ≡ Ok configuration → id ≡ 2
 configured id e = by_bool (eqb id 2) (λ y. eqb-true id 2 y) (λ n. absurd (go (eqb id 0) (eqb id 6) (rw n at e)))
   where
-    go : (a c : Bool) → ◌≡◌ {A = Checked Kind} (cond a (accept request) (cond c (accept stop) (refuse not_for_tag))) (accept configuration) → ⊥
+    go : (a c : Bool) → ◌≡◌ {A = Checked Kind} (cond a (Ok request) (cond c (Ok stop) (Err NotForTag))) (Ok configuration) → ⊥
     go true c e = let z : ◌≡◌ {A = ℕ} 0 1 = cc in omega arith
     go false true e = let z : ◌≡◌ {A = ℕ} 0 1 = cc in omega arith
     go false false e = let z : ◌≡◌ {A = ℕ} 0 1 = cc in omega arith
@@ -160,54 +163,57 @@ configured id e = by_bool (eqb id 2) (λ y. eqb-true id 2 y) (λ n. absurd (go (
 abbrev tagged : Heard → List ℕ → Record
 tagged h m = record { id = h.id; set = h.set; capability = blank capabilities; configuration = settings_at h m }
 
-module _ (s : Session) (m b : List ℕ) {a : Heard} (h : Hears (demand (valid_profile s.profile) not_valid (reading m)) m a) where
+module _ (s : Session) (m b : List ℕ) where
   abbrev given_message : Checked (Served Session)
   given_message = session_call s (record { said = message m; lent = b })
 
-  abbrev by_kind : Checked (Served Session)
-  by_kind = and_then (kind_of a.id) λ k. conclude b (serve on_session s.profile k (tagged a m) s)
-
   abbrev by_reading : Bool → Checked Record → Checked (Served Session)
-  by_reading v o = demand v not_valid (and_then (and_then o λ r. and_then (kind_of r.id) λ k. accept (serve on_session s.profile k r s)) (conclude b))
+  by_reading v o = demand v NotValid (and_then (and_then o λ r. and_then (kind_of r.id) λ k. Ok (serve on_session s.profile k r s)) (conclude b))
 
-  pub not_heard : (a.refusal ≡ 0 → ⊥) → Refuses s given_message b a.refusal
+  pub not_heard : (x : Refusal) → Hears (demand (valid_profile s.profile) NotValid (reading m)) m (Err x) → Refuses s given_message b (number_of x)
   unfolding session_call call respond
-  not_heard z = go (valid_profile s.profile) (reading m) h.refusal
+  not_heard x h = go (valid_profile s.profile) (reading m) h
     where
-      go : (v : Bool) (o : Checked Record) → a.refusal ≡ (answer (demand v not_valid o)).refusal → Refuses s (by_reading v o) b a.refusal
-      go false o q = rw q (refuses not_valid)
-      go true (refuse x) q = rw q (refuses x)
-      go true (accept r) q = absurd (z q)
+      same : (y : Refusal) → ◌≡◌ {A = Checked Heard} (Err x) (Err y) → Refuses s (Err y) b (number_of x)
+      same y q = let e : ◌≡◌ {A = Refusal} x y = cc in rw e (refuses y)
 
-  pub was_heard : a.refusal ≡ 0 → (valid_profile s.profile ≡ true) × (given_message ≡ by_kind)
-  unfolding session_call call respond
-  was_heard z = go (valid_profile s.profile) (reading m) h
-    where
-      refused : (x : Refusal) → a.refusal ≡ number_of x → ⊥
-      refused x q = no_zero x (sym q ∙ z)
+      go : (v : Bool) (o : Checked Record) → Hears (demand v NotValid o) m (Err x) → Refuses s (by_reading v o) b (number_of x)
+      go false o q = same NotValid q
+      go true (Err y) q = same y q
+      go true (Ok r) q = absurd q
 
-      -- only a Configuration's settings are looked at
-      same : (r : Record) → Hears (accept r) m a → (k : Kind) → kind_of a.id ≡ accept k → serve on_session s.profile k r s ≡ serve on_session s.profile k (tagged a m) s
-      same r q request e = ap (λ (n : ℕ). serve on_session s.profile request (record { id = 0; set = n; capability = blank capabilities; configuration = blank configurations }) s) (sym q.set)
-      same r q configuration e = λ i. configure on_session s.profile (sym q.set i) (sym (q.settings z (configured a.id e)) i) s
-      same r q stop e = ap (λ (n : ℕ). halt on_session s.profile n s) (sym q.set)
+  module _ (a : Heard) (h : Hears (demand (valid_profile s.profile) NotValid (reading m)) m (Ok a)) where
+    abbrev by_kind : Checked (Served Session)
+    by_kind = and_then (kind_of a.id) λ k. conclude b (serve on_session s.profile k (tagged a m) s)
 
-      of : (r : Record) → Hears (accept r) m a → (o : Checked Kind) → kind_of a.id ≡ o
-          → and_then (and_then o λ k. accept (serve on_session s.profile k r s)) (conclude b) ≡ (and_then o λ k. conclude b (serve on_session s.profile k (tagged a m) s))
-      of r q (refuse x) e = refl
-      of r q (accept k) e = ap (conclude b) (same r q k e)
+    pub was_heard : (valid_profile s.profile ≡ true) × (given_message ≡ by_kind)
+    unfolding session_call call respond
+    was_heard = go (valid_profile s.profile) (reading m) h
+      where
+        refused : (x : Refusal) → ◌≡◌ {A = Checked Heard} (Ok a) (Err x) → ⊥
+        refused x q = let z : ◌≡◌ {A = ℕ} 0 1 = cc in omega arith
 
-      go : (v : Bool) (o : Checked Record) → Hears (demand v not_valid o) m a → (v ≡ true) × (by_reading v o ≡ by_kind)
-      go false o q = absurd (refused not_valid q.refusal)
-      go true (refuse x) q = absurd (refused x q.refusal)
-      go true (accept r) q = (refl, ap (λ (i : ℕ). and_then (and_then (kind_of i) λ k. accept (serve on_session s.profile k r s)) (conclude b)) (sym q.id) ∙ of r q (kind_of a.id) refl)
+        -- only a Configuration's settings are looked at
+        same : (r : Record) → Hears (Ok r) m (Ok a) → (k : Kind) → kind_of a.id ≡ Ok k → serve on_session s.profile k r s ≡ serve on_session s.profile k (tagged a m) s
+        same r q request e = ap (λ (n : ℕ). serve on_session s.profile request (record { id = 0; set = n; capability = blank capabilities; configuration = blank configurations }) s) (sym q.set)
+        same r q configuration e = λ i. configure on_session s.profile (sym q.set i) (sym (q.settings (configured a.id e)) i) s
+        same r q stop e = ap (λ (n : ℕ). halt on_session s.profile n s) (sym q.set)
 
-  module _ (z : a.refusal ≡ 0) where
-    pub a_message : {k : Kind} {x : Answer} {n : Session} {e : List ℕ} → kind_of a.id ≡ accept k → Gives s (conclude b (serve on_session s.profile k (tagged a m) s)) b x n e → Gives s given_message b x n e
-    a_message i g = rw ((was_heard z).1, i) g
+        of : (r : Record) → Hears (Ok r) m (Ok a) → (o : Checked Kind) → kind_of a.id ≡ o
+            → and_then (and_then o λ k. Ok (serve on_session s.profile k r s)) (conclude b) ≡ (and_then o λ k. conclude b (serve on_session s.profile k (tagged a m) s))
+        of r q (Err x) e = refl
+        of r q (Ok k) e = ap (conclude b) (same r q k e)
+
+        go : (v : Bool) (o : Checked Record) → Hears (demand v NotValid o) m (Ok a) → (v ≡ true) × (by_reading v o ≡ by_kind)
+        go false o q = absurd (refused NotValid q)
+        go true (Err x) q = absurd (refused x q)
+        go true (Ok r) q = (refl, ap (λ (i : ℕ). and_then (and_then (kind_of i) λ k. Ok (serve on_session s.profile k r s)) (conclude b)) (sym q.id) ∙ of r q (kind_of a.id) refl)
+
+    pub a_message : {k : Kind} {x : Answer} {n : Session} {e : List ℕ} → kind_of a.id ≡ Ok k → Gives s (conclude b (serve on_session s.profile k (tagged a m) s)) b x n e → Gives s given_message b x n e
+    a_message i g = rw (was_heard.1, i) g
 
     pub another : (a.id ≡ 0 → ⊥) → (a.id ≡ 2 → ⊥) → (a.id ≡ 6 → ⊥) → Refuses s given_message b 10
-    another h k l = rw ((was_heard z).1, ne_eqb a.id 0 h, ne_eqb a.id 2 k, ne_eqb a.id 6 l) (refuses not_for_tag)
+    another h k l = rw (was_heard.1, ne_eqb a.id 0 h, ne_eqb a.id 2 k, ne_eqb a.id 6 l) (refuses NotForTag)
 
 -- an advertisement wants every technology
 pub advertised : (s : Session) (b : List ℕ) → valid_profile s.profile ≡ true → {x : Answer} {n : Session} {e : List ℕ} → Gives s (conclude b (give_out on_session s.profile (names 15) s)) b x n e
@@ -221,11 +227,11 @@ module _ (r : Record) (n : ℕ) where
   abbrev pub is_profile : Bool
   is_profile = (eqb r.id 1 && valid r) && ltb n 3
 
-  pub start_refused : is_profile ≡ false → profile_of r n ≡ refuse not_valid
+  pub start_refused : is_profile ≡ false → profile_of r n ≡ Err NotValid
   unfolding profile_of
   start_refused h = rw h
 
-  pub start_accepted : is_profile ≡ true → profile_of r n ≡ accept (as_profile r n)
+  pub start_accepted : is_profile ≡ true → profile_of r n ≡ Ok (as_profile r n)
   unfolding profile_of
   start_accepted h = rw h
 

@@ -1,6 +1,6 @@
 -- Demand 3 in the customer's words: what ranges after a list of calls, told by splitting the list at the calls that decide.
 use Rattle.std.specs.Prelude.{ℕ, ◌≤◌, ◌<◌, ◌≡◌, List, [], ◌∷◌, ◌++◌, ◌↔◌, ◌⊎◌, Bool, true, false, cond, ◌&&◌, length}
-use Rattle.codec.specs.Refusal.{accept}
+use Rattle.std.specs.Prelude.{Ok}
 use Rattle.codec.specs.Message.{reading}
 use Rattle.codec.specs.WellFormed.{Each, Has}
 use Rattle.codec.specs.NormalForm.{blocks_of, normal}
@@ -35,8 +35,8 @@ module _ (p : Profile) where
   pub record Accepted (k : Kind) (c : Call) (r : Record) : Type 0 where
     pub octets : List ℕ
     pub says : c.said ≡ message octets
-    pub reads : reading octets ≡ accept r
-    pub kind : kind_of r.id ≡ accept k
+    pub reads : reading octets ≡ Ok r
+    pub kind : kind_of r.id ≡ Ok k
     pub room : reply_length k r ≤ length c.lent
 
   -- an advertisement, with room for what it writes

@@ -1,7 +1,9 @@
 -- The rules that the ledger and the session share. None of them sees a session record or a ledger.
 use Rattle.std.specs.Prelude.{ℕ, List, [], ◌++◌, Bool, true, cond, not, ◌&&◌, leb, ltb, eqb, length, drop}
 use Rattle.std.proofs.Math.Option.{Option, none, some}
-use Rattle.codec.specs.Refusal.{Checked, refuse, accept, demand, and_then, number_of, not_for_tag, buffer_too_short}
+use Rattle.std.specs.Prelude.{Err, Ok}
+use Rattle.codec.specs.Refusal.{Checked, demand, and_then, number_of}
+use Rattle.codec.specs.declared.refusal.Refusal.TheVariants.{NotForTag, BufferTooShort}
 use Rattle.codec.specs.Message.{reading}
 use Rattle.codec.specs.Valid.{valid}
 use Rattle.codec.specs.NormalForm.{normal}
@@ -42,7 +44,7 @@ pub data Kind : Type 0 where
 
 -- by its ID; 10 for messages 1, 3 and 7
 abbrev pub kind_of : ℕ → Checked Kind
-kind_of id = cond (eqb id 0) (accept request) (cond (eqb id 2) (accept configuration) (cond (eqb id 6) (accept stop) (refuse not_for_tag)))
+kind_of id = cond (eqb id 0) (Ok request) (cond (eqb id 2) (Ok configuration) (cond (eqb id 6) (Ok stop) (Err NotForTag)))
 
 -- ---- replies
 
@@ -87,12 +89,12 @@ pub record Served (S : Type 0) : Type 0 where
 
 -- 11 is tested on the reply that the call would get
 unfoldable pub conclude : {S : Type 0} → List ℕ → Served S → Checked (Served S)
-conclude b v = demand (leb (length (octets_of v.reply)) (length b)) buffer_too_short (accept v)
+conclude b v = demand (leb (length (octets_of v.reply)) (length b)) BufferTooShort (Ok v)
 
 -- a refused call leaves the state
 abbrev pub after : {S : Type 0} → S → Checked (Served S) → S
-after s (refuse x) = s
-after s (accept v) = v.state
+after s (Err x) = s
+after s (Ok v) = v.state
 
 -- ---- the calls, over whatever keeps the state
 
@@ -147,8 +149,8 @@ module _ {S : Type 0} (on : Operations S) (p : Profile) where
 
   -- the reader's refusals come first, then 10; an advertisement is a Request for the whole profile
   unfoldable pub respond : S → Said → Checked (Served S)
-  respond s (message m) = and_then (reading m) λ r. and_then (kind_of r.id) λ k. accept (serve k r s)
-  respond s advertisement = accept (give_out (λ t. true) s)
+  respond s (message m) = and_then (reading m) λ r. and_then (kind_of r.id) λ k. Ok (serve k r s)
+  respond s advertisement = Ok (give_out (λ t. true) s)
 
   -- 11 comes last
   unfoldable pub call : S → Call → Checked (Served S)
@@ -158,10 +160,10 @@ module _ {S : Type 0} (on : Operations S) (p : Profile) where
 
 -- a refusing session returns the number, reply length 0 and two empty sets
 abbrev pub answer_to : {S : Type 0} → Checked (Served S) → Answer
-answer_to (refuse x) = record { refusal = number_of x; length = 0; set = 0; stopped = 0 }
-answer_to (accept v) = record { refusal = 0; length = length (octets_of v.reply); set = v.set; stopped = v.stopped }
+answer_to (Err x) = record { refusal = number_of x; length = 0; set = 0; stopped = 0 }
+answer_to (Ok v) = record { refusal = 0; length = length (octets_of v.reply); set = v.set; stopped = v.stopped }
 
 -- the buffer afterwards: a refusal leaves it
 abbrev pub buffer_after : {S : Type 0} → Checked (Served S) → List ℕ → List ℕ
-buffer_after (refuse x) b = b
-buffer_after (accept v) b = replied v.reply b
+buffer_after (Err x) b = b
+buffer_after (Ok v) b = replied v.reply b

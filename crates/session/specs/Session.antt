@@ -1,7 +1,9 @@
 -- What the session's calls give, as equations on the session record, for every record that the struct can hold.
 use Rattle.std.specs.Prelude.{ℕ, ◌≡◌, List, Bool, cond, not, ◌&&◌, eqb, ltb}
 use Rattle.std.proofs.Math.Option.{Option, none, some}
-use Rattle.codec.specs.Refusal.{Checked, refuse, accept, demand, number_of, not_valid}
+use Rattle.std.specs.Prelude.{Err, Ok}
+use Rattle.codec.specs.Refusal.{Checked, demand, number_of}
+use Rattle.codec.specs.declared.refusal.Refusal.TheVariants.{NotValid}
 use Rattle.codec.specs.Table.{message_of}
 use Rattle.codec.specs.Valid.{valid}
 use Rattle.codec.specs.declared.records.Record.{Record}
@@ -86,7 +88,7 @@ on_session = record {
 
 -- a profile that is not valid is refused before all else
 unfoldable pub session_call : Session → Call → Checked (Served Session)
-session_call s c = demand (valid_profile s.profile) not_valid (call on_session s.profile s c)
+session_call s c = demand (valid_profile s.profile) NotValid (call on_session s.profile s c)
 
 -- what a call that leads to `o` gives: its answer, the session that it returns or leaves, and its buffer before and after
 pub record Gives (s : Session) (o : Checked (Served Session)) (before : List ℕ) (a : Answer) (next : Session) (left : List ℕ) : Type 0 where
@@ -113,9 +115,9 @@ as_profile r replies = record { set = r.set; replies = replies; capability = r.c
 -- a profile is a valid record of message 1 with one of the three reply choices
 unfoldable pub profile_of : Record → ℕ → Checked Profile
 profile_of r replies =
-    demand ((eqb r.id (message_of capabilities) && valid r) && ltb replies 3) not_valid (accept (as_profile r replies))
+    demand ((eqb r.id (message_of capabilities) && valid r) && ltb replies 3) NotValid (Ok (as_profile r replies))
 
 -- a refused start returns a fresh session with an empty profile, replies not said
 abbrev pub started : Checked Profile → Started
-started (refuse x) = record { session = fresh empty_profile; refusal = number_of x }
-started (accept p) = record { session = fresh p; refusal = 0 }
+started (Err x) = record { session = fresh empty_profile; refusal = number_of x }
+started (Ok p) = record { session = fresh p; refusal = 0 }

@@ -1,6 +1,7 @@
 // The calls: start, message, advertise. They lend the capability to the writer from the session itself.
 ghost use Rattle.std.specs.Prelude.{◌≡◌, true};
-ghost use Rattle.codec.specs.Refusal.{demand, not_valid};
+ghost use Rattle.codec.specs.Refusal.{demand};
+ghost use Rattle.codec.specs.declared.refusal.Refusal.TheVariants.{NotValid};
 ghost use Rattle.codec.specs.Technology.{names};
 ghost use Rattle.codec.specs.Inner.Places.{Hears};
 ghost use Rattle.codec.specs.Message.{reading};
@@ -12,9 +13,8 @@ use crate::profile::Choice;
 use crate::state::{Answer, Profile, Session, Started, Step};
 use crate::stop::halt;
 use codec::message::{CAPABILITY_REQUEST, CAPABILITY_RESPONSE, CONFIGURATION, STOP};
-use codec::refusal::{NOT_FOR_TAG, NOT_VALID};
 use codec::technology::ALL;
-use codec::{Heard, Record, common, set_if};
+use codec::{Heard, Record, Refusal, common, set_if};
 
 // A session with an accepted profile, or 12 and a fresh session with an empty one, replies not said.
 pub fn start(profile: Record, replies: u8) -> Started
@@ -22,11 +22,11 @@ pub fn start(profile: Record, replies: u8) -> Started
 {
     let response = (profile.id == CAPABILITY_RESPONSE)
         & codec::valid_response(profile.set, profile.capability)
-        & codec::is_zero_configuration(profile.configuration);
+        & codec::is_zero(&profile.configuration);
     if !(response & Choice::numbered(replies).is_some()) {
         return Started {
             session: Session::fresh(Profile::empty()),
-            refusal: NOT_VALID,
+            refusal: u8::from(Refusal::NotValid),
         };
     }
     Started {
@@ -40,11 +40,11 @@ pub fn start(profile: Record, replies: u8) -> Started
 }
 
 // What a tag with this profile hears: 12 if the profile is not valid, else what the reader says.
-fn hear(profile: &Profile, octets: &[u8]) -> Heard
-    ensures { Hears (demand (valid_profile profile.now) not_valid (reading octets.now)) octets.now result }
+fn hear(profile: &Profile, octets: &[u8]) -> Result<Heard, Refusal>
+    ensures { Hears (demand (valid_profile profile.now) NotValid (reading octets.now)) octets.now result }
 {
     if !profile.is_valid() {
-        return codec::unheard(NOT_VALID);
+        return Err(Refusal::NotValid);
     }
     codec::hear(octets)
 }
@@ -64,15 +64,15 @@ fn give_out(s: &mut Session, wanted: u16, out: &mut [u8]) -> Answer
 fn respond(s: &mut Session, octets: &[u8], out: &mut [u8]) -> Answer
     ensures { Does s.old (record { said = Said.message octets.now; lent = out.old }) result s.new out.new }
 {
-    let heard = hear(&s.profile, octets);
-    if heard.refusal != 0 {
-        return Answer::refused(heard.refusal);
-    }
+    let heard = match hear(&s.profile, octets) {
+        Ok(heard) => heard,
+        Err(refusal) => return Answer::refused(refusal),
+    };
     match heard.id {
         CAPABILITY_REQUEST => give_out(s, heard.set, out),
         CONFIGURATION => configure(s, &heard, octets, out),
         STOP => halt(s, heard.set, out),
-        _ => Answer::refused(NOT_FOR_TAG),
+        _ => Answer::refused(Refusal::NotForTag),
     }
 }
 
@@ -88,7 +88,7 @@ pub fn message(mut s: Session, octets: &[u8], out: &mut [u8]) -> Step
 pub fn advertise(mut s: Session, out: &mut [u8]) -> Step
     ensures { Does s (record { said = Said.advertisement; lent = out.old }) result.answer result.session out.new }
 {
-    let mut answer = Answer::refused(NOT_VALID);
+    let mut answer = Answer::refused(Refusal::NotValid);
     if s.profile.is_valid() {
         answer = give_out(&mut s, ALL, out);
     }

@@ -37,7 +37,7 @@ impl Profile {
         Profile {
             set: 0,
             replies: 0,
-            capability: codec::zero_capability(),
+            capability: codec::zero(),
         }
     }
 

@@ -1,17 +1,18 @@
 // Answers: refusals, and the replies that carry a set.
 ghost use Rattle.std.specs.Prelude.{◌≡◌, ◌<◌};
+ghost use Rattle.codec.specs.Refusal.{number_of};
 ghost use Rattle.session.specs.Rules.{explicit_reply};
 ghost use Rattle.session.specs.Inner.Replies.{Delivers, settle};
 
 use crate::state::{Answer, Profile};
-use codec::{SetMessage, Written, set_if};
+use codec::{Refusal, SetMessage, Written, set_if};
 
 impl Answer {
-    pub(crate) fn refused(number: u8) -> Answer
-        ensures { result ≡ record { refusal = number; length = 0; set = 0; stopped = 0 } }
+    pub(crate) fn refused(refusal: Refusal) -> Answer
+        ensures { result ≡ record { refusal = number_of refusal; length = 0; set = 0; stopped = 0 } }
     {
         Answer {
-            refusal: number,
+            refusal: u8::from(refusal),
             length: 0,
             set: 0,
             stopped: 0,

@@ -64,7 +64,7 @@ impl Settings for UwbConfiguration {
     }
 
     fn at(octets: &[u8], heard: &Heard) -> UwbConfiguration {
-        codec::uwb_settings(octets, heard.uwb)
+        codec::fields_at(octets, heard.uwb)
     }
 
     fn is_within(&self, capability: &Capability) -> bool {
@@ -95,7 +95,7 @@ impl Settings for CsConfiguration {
     }
 
     fn at(octets: &[u8], heard: &Heard) -> CsConfiguration {
-        codec::cs_settings(octets, heard.cs)
+        codec::fields_at(octets, heard.cs)
     }
 
     fn is_within(&self, capability: &Capability) -> bool {
@@ -122,7 +122,7 @@ impl Settings for NanConfiguration {
     }
 
     fn at(octets: &[u8], heard: &Heard) -> NanConfiguration {
-        codec::nan_settings(octets, heard.nan)
+        codec::fields_at(octets, heard.nan)
     }
 
     fn is_within(&self, capability: &Capability) -> bool {
@@ -144,7 +144,7 @@ impl Settings for Rssi {
     }
 
     fn at(octets: &[u8], heard: &Heard) -> Rssi {
-        codec::rssi_block(octets, heard.rssi)
+        codec::fields_at(octets, heard.rssi)
     }
 
     fn is_within(&self, _capability: &Capability) -> bool {

@@ -1,16 +1,15 @@
 -- What the inner functions of the writer keep, and those that lay out a bench log's listing: octets put into the buffer one piece after the other, and how long the blocks are.
-use Rattle.std.specs.Prelude.{ℕ, ◌+◌, ◌≤◌, Bool, true, false, ◌||◌, cond, ◌≡◌, List, [], ◌∷◌, ◌++◌, length, take, drop}
+use Rattle.std.specs.Prelude.{ℕ, ◌+◌, ◌≤◌, Bool, true, false, ◌||◌, ◌≡◌, List, [], ◌∷◌, ◌++◌, length, take, drop}
 use Rattle.codec.specs.Octets.{to_le}
 use Rattle.codec.specs.Technology.{Technology, technology_id, technologies, names}
 use Rattle.codec.specs.Layout.{Layout, number, octets, counted, Values, zeroed}
-use Rattle.codec.specs.Blocks.{uwb_after_key, Column, capabilities, configurations, cell}
+use Rattle.codec.specs.Blocks.{uwb_after_key, Column, capabilities, cell}
 use Rattle.codec.specs.Records.{StructOf, fields}
 use Rattle.codec.specs.Valid.{every}
 use Rattle.codec.specs.NormalForm.{block}
 use Rattle.codec.specs.declared.uwb.UwbCapability.{UwbCapability}
 use Rattle.codec.specs.declared.uwb.UwbConfiguration.{UwbConfiguration}
 use Rattle.codec.specs.declared.records.Capability.{Capability}
-use Rattle.codec.specs.declared.records.Configuration.{Configuration}
 
 -- d with octets from a place on
 unfoldable pub over : List ℕ → ℕ → List ℕ → List ℕ
@@ -28,16 +27,6 @@ abbrev pub block_if : Bool → (L : Layout) → ℕ → Values L → List ℕ
 block_if true L id v = block L id v
 block_if false L id v = []
 
--- how many octets a block takes, where what is counted fits its array
-abbrev pub fields_size : (L : Layout) → Values L → ℕ
-fields_size [] v = 0
-fields_size (number x w t ∷ L) v = w + fields_size L v.1
-fields_size (octets x n t ∷ L) v = n + fields_size L v.1
-fields_size (counted y x t c ∷ L) v = 1 + v.0 + fields_size L v.1.1
-
-abbrev pub block_size : (L : Layout) → Values L → ℕ
-block_size L v = 2 + fields_size L v
-
 -- the octets of UWB's sets of channels, preamble indexes and config IDs
 abbrev pub set_octets : UwbCapability → List ℕ
 set_octets v = to_le 4 v.channels.0 ++ (to_le 4 v.preamble_indexes.0 ++ to_le 4 v.config_ids.0)
@@ -54,21 +43,13 @@ after_key v = (v.country, (v.role, (v.mode, tt)))
 abbrev pub head : ℕ → ℕ → List ℕ
 head id set = 1 ∷ (id ∷ to_le 2 set)
 
--- the octets of the blocks of those of these technologies that are in the set, and how many they are
-module _ (k : Column) (set : ℕ) (v : (t : Technology) → Values (cell k t)) where
-  abbrev pub chain : List Technology → List ℕ
-  chain [] = []
-  chain (t ∷ others) = block_if (names set t) (cell k t) (technology_id t) (v t) ++ chain others
-
-  abbrev pub chain_size : List Technology → ℕ
-  chain_size [] = 0
-  chain_size (t ∷ others) = cond (names set t) (block_size (cell k t) (v t)) 0 + chain_size others
+-- the octets of the blocks of those of these technologies that are in the set
+abbrev pub chain : (k : Column) (set : ℕ) → ((t : Technology) → Values (cell k t)) → List Technology → List ℕ
+chain k set v [] = []
+chain k set v (t ∷ others) = block_if (names set t) (cell k t) (technology_id t) (v t) ++ chain k set v others
 
 abbrev pub column_octets : (k : Column) → ℕ → StructOf k → List ℕ
 column_octets k set c = chain k set (fields k c) technologies
-
-abbrev pub column_size : (k : Column) → ℕ → StructOf k → ℕ
-column_size k set c = chain_size k set (fields k c) technologies
 
 -- what is counted fits its array
 abbrev pub Held : (L : Layout) → Values L → Type 0
@@ -77,9 +58,13 @@ Held (number x w t ∷ L) v = Held L v.1
 Held (octets x n t ∷ L) v = Held L v.1
 Held (counted y x t c ∷ L) v = (v.0 ≤ c) × Held L v.1.1
 
--- the key and the name of a Configuration fit their arrays
-abbrev pub Fit : Configuration → Type 0
-Fit c = (t : Technology) → Held (cell configurations t) (fields configurations c t)
+-- so do the key and the name of a Configuration
+abbrev pub Fits : (k : Column) → StructOf k → Type 0
+Fits k c = (t : Technology) → Held (cell k t) (fields k c t)
+
+-- a block's fields, with their layout, are those of a technology in a column
+abbrev pub InColumn : (k : Column) → StructOf k → Technology → (L : Layout) → Values L → Type 0
+InColumn k c t L v = ◌≡◌ {A = (M : Layout) × Values M} (L, v) (cell k t, fields k c t)
 
 -- the fields of the technologies that a set leaves out of a capability are zero
 abbrev pub rest_zero : ℕ → Capability → Bool

@@ -16,4 +16,4 @@ used : (set : ℕ) (c : Capability)
 used set c = simp (and-true, or-true)
 
 pub returns : goal.returns
-returns c = let a = c.args in rw (c.valid_capability.ensures, c.valid_capability-2.ensures, c.has.ensures, c.has-2.ensures) (used a.set a.c ∙ sym (only_valid a.set a.c))
+returns c = let a = c.args in rw (c.is_allowed.ensures, c.is_allowed-2.ensures, c.has.ensures, c.has-2.ensures) (used a.set a.c.now ∙ sym (only_valid a.set a.c.now))

@@ -16,8 +16,8 @@ tested p replies v z c h = rw (v, z, c, start_tested p) at h
 
 pub returns-then-not-response-is_some : goal.returns-then-not-response-is_some
 returns-then-not-response-is_some c = let k = c.is_some.ensures ∙ c.numbered.ensures.known in
-    rw (c.fresh.ensures, c.empty.ensures, start_refused c.args.profile c.args.replies (tested c.args.profile c.args.replies c.valid_response.ensures c.is_zero_configuration.ensures k c.if-not-response-is_some.true))
+    rw (c.from.ensures, c.fresh.ensures, c.empty.ensures, start_refused c.args.profile c.args.replies (tested c.args.profile c.args.replies c.valid_response.ensures c.is_zero.ensures k c.if-not-response-is_some.true))
 
 pub returns : goal.returns
 returns c = let k = c.is_some.ensures ∙ c.numbered.ensures.known in
-    rw (c.fresh-2.ensures, start_accepted c.args.profile c.args.replies (tested c.args.profile c.args.replies c.valid_response.ensures c.is_zero_configuration.ensures k c.if-not-response-is_some.false))
+    rw (c.fresh-2.ensures, start_accepted c.args.profile c.args.replies (tested c.args.profile c.args.replies c.valid_response.ensures c.is_zero.ensures k c.if-not-response-is_some.false))
