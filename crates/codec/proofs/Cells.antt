@@ -1,10 +1,13 @@
 -- The cells of the table: a law of each layout is a law of each cell, and a record keeps the fields of every cell.
-use Prim.Native.Nat.{ℕ, ◌≤◌, ◌<◌}
+use Prim.Native.Nat.{ℕ, ◌+◌, ◌≤◌, ◌<◌}
 use native.Mathlib.Omega.{arith}
-use mathlib.Core.Path.{◌≡◌, refl, fun_ext}
+use mathlib.Core.Path.{◌≡◌, refl, sym, ap, ◌∙◌, fun_ext}
 use mathlib.Core.Bool.{true}
-use mathlib.Core.List.{[]}
+use mathlib.Core.List.{List, []}
+use lib.ListN.{length, get_or}
 use borrow.Author.Tests.{ne_eqb}
+use Rattle.codec.specs.Refusal.{Checked}
+use Rattle.codec.specs.Inner.Places.{size_fault, layout_fault, fields_fault}
 use Rattle.codec.specs.Technology.{Technology, uwb, cs, nan, rssi, technology_id}
 use Rattle.codec.specs.Layout.{Layout, Values}
 use Rattle.codec.specs.Blocks.{uwb_capability, cs_capability, nan_capability, rssi_block, uwb_configuration, cs_configuration, nan_configuration, Column, capabilities, configurations, cell, layouts}
@@ -39,6 +42,19 @@ layout_of k rssi = refl
 
 pub no_layout : (k : Column) (id : ℕ) → 4 ≤ id → layouts k id ≡ []
 no_layout k id h = rw (ne_eqb id 0 (λ e. omega arith), ne_eqb id 1 (λ e. omega arith), ne_eqb id 2 (λ e. omega arith), ne_eqb id 3 (λ e. omega arith))
+
+-- RSSI's two blocks are alike
+pub rssi_cell : (k : Column) → rssi_block ≡ cell k rssi
+rssi_cell capabilities = refl
+rssi_cell configurations = refl
+
+-- the first fault of a block whose ID is a technology's, and of any other block
+module _ (k : Column) (m : List ℕ) (at : ℕ) {r : Checked (Unit {0})} where
+  pub fault_of : (t : Technology) {L : Layout} → get_or m at 0 ≡ technology_id t → L ≡ cell k t → r ≡ layout_fault L m at → r ≡ fields_fault (layouts k) m at
+  fault_of t i l e = e ∙ ap (λ (L : Layout). layout_fault L m at) (l ∙ sym (layout_of k t) ∙ ap (layouts k) (sym i))
+
+  pub fault_past : 4 ≤ get_or m at 0 → r ≡ size_fault 2 m at → r ≡ fields_fault (layouts k) m at
+  fault_past h e = e ∙ ap (λ (L : Layout). layout_fault L m at) (sym (no_layout k (get_or m at 0) h))
 
 pub technology_below : (t : Technology) → technology_id t < 4
 technology_below uwb = omega arith

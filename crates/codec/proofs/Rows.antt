@@ -1,14 +1,17 @@
 -- What every row of the table keeps.
-use Prim.Native.Nat.{ℕ, ◌≤◌}
+use Prim.Native.Nat.{ℕ, ◌-◌, ◌≤◌}
 use native.Mathlib.Omega.{arith}
-use mathlib.Core.Path.{◌≡◌, sym, ap, ◌∙◌}
+use mathlib.Core.List.{List}
+use mathlib.Core.Path.{◌≡◌, refl, sym, ap, ◌∙◌}
 use mathlib.Core.Option.{Option, none, some, none-ne-some}
 use mathlib.Core.Bool.{Bool, true, false, cond, true≢false}
 use lib.Dec.{eqb}
-use borrow.Author.Tests.{eqb-true, ne_eqb}
+use borrow.Author.Tests.{eqb-true, eq-eqb, ne_eqb}
 use Rattle.codec.specs.Technology.{Technology, technology_id, known, names}
 use Rattle.codec.specs.Blocks.{Column, capabilities, configurations}
 use Rattle.codec.specs.Table.{message_of, Row, row, set_in}
+use Rattle.codec.specs.Octets.{of_le}
+use Rattle.codec.specs.Message.{set_of, sets_agree, blocks_at}
 use Rattle.codec.specs.Inner.Places.{set_alone}
 use Rattle.codec.proofs.Outcomes.{by_bool}
 use Rattle.codec.proofs.Cells.{technology_below}
@@ -42,6 +45,24 @@ carries id =
 pub column_there : (id : ℕ) (k : Column) → eqb id (message_of k) ≡ true → (row id).column ≡ some k
 column_there id capabilities e = rw e
 column_there id configurations e = rw (eqb-true id 2 e)
+
+-- the message of a column
+pub column_of : (k : Column) → (row (message_of k)).column ≡ some k
+column_of capabilities = refl
+column_of configurations = refl
+
+pub room_after : (k : Column) → 4 ≤ blocks_at (row (message_of k)).times
+room_after capabilities = omega arith
+room_after configurations = omega arith
+
+-- its sets agree where the last is the first
+pub sets_one : (k : Column) (m : List ℕ) → set_of m ≡ of_le 2 (blocks_at (row (message_of k)).times - 2) m → sets_agree (row (message_of k)).times m ≡ true
+sets_one capabilities m e = refl
+sets_one configurations m e = eq-eqb _ _ e
+
+pub sets_two : (k : Column) (m : List ℕ) → (set_of m ≡ of_le 2 (blocks_at (row (message_of k)).times - 2) m → ⊥) → sets_agree (row (message_of k)).times m ≡ false
+sets_two capabilities m n = absurd (n refl)
+sets_two configurations m n = ne_eqb _ _ n
 
 -- a message that carries a set alone is no column's
 pub alone_not : (id : ℕ) → row id ≡ set_alone → (k : Column) → eqb id (message_of k) ≡ false

@@ -1,37 +1,38 @@
-// The first fault of a block by its technology's ID, for each column of blocks.
+// The first fault of a block by its technology's ID.
 ghost use Rattle.std.specs.Prelude.{◌≡◌, ◌+◌, ◌≤◌, length};
-ghost use Rattle.codec.specs.Blocks.{capabilities, configurations, layouts};
-ghost use Rattle.codec.specs.Inner.Places.{fields_fault};
+ghost use Rattle.codec.specs.Technology.{uwb, cs, nan};
+ghost use Rattle.codec.specs.Blocks.{Column, cell, layouts};
+ghost use Rattle.codec.specs.Inner.Places.{layout_fault, fields_fault};
 
+use crate::fields::Fields;
 use crate::refusal::Refusal;
-use crate::sizes::size_fault;
+use crate::rssi::Rssi;
+use crate::sizes::{block_octets, size_fault};
 use crate::technology::{CS, NAN, RSSI, UWB};
-use crate::{cs, nan, rssi, uwb};
 
-// The first fault of the block at a place of message 1. A block of an unknown technology is passed over by its size.
-pub(crate) fn capability_fault(m: &[u8], at: usize) -> Result<(), Refusal>
+// The first fault of the block at a place of a message: its size, and then its fields.
+fn block_fault<F: Fields>(m: &[u8], at: usize) -> Result<(), Refusal>
     requires { at + 2 ≤ length m.now }
-    ensures { result ≡ fields_fault (layouts capabilities) m.now at }
+    ensures { result ≡ layout_fault F.layout m.now at }
 {
-    match m[at] {
-        UWB => uwb::capability_fault(m, at),
-        CS => cs::capability_fault(m, at),
-        NAN => nan::capability_fault(m, at),
-        RSSI => rssi::block_fault(m, at),
-        _ => size_fault(m, at, 2),
-    }
+    size_fault(m, at, F::least())?;
+    F::fault(block_octets(m, at))
 }
 
-// The same of message 2.
-pub(crate) fn configuration_fault(m: &[u8], at: usize) -> Result<(), Refusal>
+// The same by its ID, with the fields that each technology has in a column. A block of an unknown technology is passed over by its
+// size.
+pub(crate) fn fault_by_id<Uwb: Fields, Cs: Fields, Nan: Fields>(
+    m: &[u8],
+    at: usize,
+) -> Result<(), Refusal>
     requires { at + 2 ≤ length m.now }
-    ensures { result ≡ fields_fault (layouts configurations) m.now at }
+    ensures { (k : Column) → Uwb.layout ≡ cell k uwb → Cs.layout ≡ cell k cs → Nan.layout ≡ cell k nan → result ≡ fields_fault (layouts k) m.now at }
 {
     match m[at] {
-        UWB => uwb::configuration_fault(m, at),
-        CS => cs::configuration_fault(m, at),
-        NAN => nan::configuration_fault(m, at),
-        RSSI => rssi::block_fault(m, at),
+        UWB => block_fault::<Uwb>(m, at),
+        CS => block_fault::<Cs>(m, at),
+        NAN => block_fault::<Nan>(m, at),
+        RSSI => block_fault::<Rssi>(m, at),
         _ => size_fault(m, at, 2),
     }
 }

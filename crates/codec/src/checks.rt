@@ -1,13 +1,15 @@
 // The order of checks: a message's first fault, and the places of its blocks where there is none.
 ghost use Rattle.std.specs.Prelude.{◌≡◌, true, ◌≤◌, length};
-ghost use Rattle.codec.specs.Table.{message_limit, readable, row};
+ghost use Rattle.codec.specs.Table.{message_limit, message_of, readable, row};
 ghost use Rattle.codec.specs.Message.{id_of, end_fault, body, parse, blocks_at};
 ghost use Rattle.codec.specs.Inner.Places.{head_fault, verdict, set_alone, carries_blocks, Judged};
 
+use crate::columns::Column;
 use crate::message::{CAPABILITY_RESPONSE, CONFIGURATION, assigned};
 use crate::octets::u16_at;
+use crate::records::{Capability, Configuration};
 use crate::refusal::Refusal;
-use crate::walk::{walk_capabilities, walk_configurations};
+use crate::walk::walk;
 
 // A message has at most so many octets.
 pub const MESSAGE_LIMIT: usize = 256;
@@ -68,40 +70,24 @@ pub(crate) fn set_fault(m: &[u8]) -> Result<(), Refusal>
     end_fault(m, 4)
 }
 
-// The first fault from the version on of a Capability Response.
-pub(crate) fn response_fault(m: &[u8], found: &mut [u16; 5]) -> Result<(), Refusal>
-    requires { (2 ≤ length m.now) × (length m.now ≤ message_limit) × (id_of m.now ≡ 1) × (length found.old ≡ 5) }
-    ensures { Judged true (body m.now) 4 found.old result found.new }
+// The first fault from the version on of a message with the blocks of a column. Its last set is the first, where it has but one.
+pub(crate) fn blocks_fault<C: Column>(m: &[u8], found: &mut [u16; 5]) -> Result<(), Refusal>
+    requires { (2 ≤ length m.now) × (length m.now ≤ message_limit) × (id_of m.now ≡ message_of C.column) × (length found.old ≡ 5) }
+    ensures { Judged true (body m.now) (blocks_at (row (message_of C.column)).times) found.old result found.new }
 {
     if !readable(m[0], m[1]) {
         return Err(Refusal::WrongVersion);
     }
-    if m.len() < 4 {
+    let first = C::blocks_at();
+    if m.len() < first {
         return Err(Refusal::EndsEarly);
     }
     let set = u16_at(m, 2);
-    let view = m;
-    walk_capabilities(&view, 4, set, 0, found)?;
-    end_fault(m, usize::from(found[4]))
-}
-
-// The first fault from the version on of a Configuration.
-pub(crate) fn configuration_fault(m: &[u8], found: &mut [u16; 5]) -> Result<(), Refusal>
-    requires { (2 ≤ length m.now) × (length m.now ≤ message_limit) × (id_of m.now ≡ 2) × (length found.old ≡ 5) }
-    ensures { Judged true (body m.now) 6 found.old result found.new }
-{
-    if !readable(m[0], m[1]) {
-        return Err(Refusal::WrongVersion);
-    }
-    if m.len() < 6 {
-        return Err(Refusal::EndsEarly);
-    }
-    let set = u16_at(m, 2);
-    if set != u16_at(m, 4) {
+    if set != u16_at(m, first - 2) {
         return Err(Refusal::SetsDiffer);
     }
     let view = m;
-    walk_configurations(&view, 6, set, 0, found)?;
+    walk::<C>(&view, first, set, 0, found)?;
     end_fault(m, usize::from(found[4]))
 }
 
@@ -112,8 +98,8 @@ pub(crate) fn message_fault(m: &[u8], found: &mut [u16; 5]) -> Result<(), Refusa
 {
     head_fault(m)?;
     match m[1] {
-        CAPABILITY_RESPONSE => response_fault(m, found),
-        CONFIGURATION => configuration_fault(m, found),
+        CAPABILITY_RESPONSE => blocks_fault::<Capability>(m, found),
+        CONFIGURATION => blocks_fault::<Configuration>(m, found),
         _ => set_fault(m),
     }
 }

@@ -1,12 +1,15 @@
 // A column of 01's table: the struct that holds what the blocks of one message say.
-ghost use Rattle.std.specs.Prelude.{◌≡◌};
+ghost use Rattle.std.specs.Prelude.{◌≡◌, ◌+◌, ◌≤◌, length};
 ghost use Rattle.codec.specs.Technology.{uwb, cs, nan, rssi};
-ghost use Rattle.codec.specs.Blocks.{Column as TableColumn, rssi_block};
+ghost use Rattle.codec.specs.Blocks.{Column as TableColumn, layouts, rssi_block};
+ghost use Rattle.codec.specs.Table.{row, message_of};
+ghost use Rattle.codec.specs.Message.{blocks_at};
 ghost use Rattle.codec.specs.Records.{StructOf, blank, of_rssi};
-ghost use Rattle.codec.specs.Inner.Places.{column_at};
+ghost use Rattle.codec.specs.Inner.Places.{column_at, fields_fault};
 ghost use Rattle.codec.specs.Inner.Puts.{InColumn};
 
 use crate::fields::Fields;
+use crate::refusal::Refusal;
 use crate::rssi::Rssi;
 
 pub trait Column: Copy {
@@ -19,6 +22,15 @@ pub trait Column: Copy {
     ghost column: { TableColumn };
 
     ghost kept: { Self → StructOf column };
+
+    // The place where the blocks of its message start, after the sets.
+    fn blocks_at() -> usize
+        ensures { result ≡ blocks_at (row (message_of column)).times };
+
+    // The first fault of the block at a place of a message.
+    fn fault(m: &[u8], at: usize) -> Result<(), Refusal>
+        requires { at + 2 ≤ length m.now }
+        ensures { result ≡ fields_fault (layouts column) m.now at };
 
     // All fields zero.
     fn zero() -> Self

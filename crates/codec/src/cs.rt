@@ -8,7 +8,6 @@ ghost use Rattle.codec.specs.Inner.Places.{layout_fault};
 use crate::fields::Fields;
 use crate::octets::{all_zero, inside, octets_at, put, put_octets};
 use crate::refusal::Refusal;
-use crate::sizes::{block_octets, size_fault};
 
 #[repr(C)]
 #[derive(Clone, Copy)]
@@ -24,34 +23,6 @@ pub struct CsConfiguration {
     pub address: [u8; 6],
 }
 
-// The first fault of the block at a place of a message: its size.
-pub(crate) fn capability_fault(m: &[u8], at: usize) -> Result<(), Refusal>
-    requires { at + 2 ≤ length m.now }
-    ensures { result ≡ layout_fault cs_capability m.now at }
-{
-    size_fault(m, at, 9)
-}
-
-// The first fault in the fields of the configuration.
-fn configuration_fields_fault(b: &[u8]) -> Result<(), Refusal>
-    requires { 9 ≤ length b.now }
-    ensures { result ≡ fault cs_configuration 2 b.now }
-{
-    if !inside(0, 4, b[2]) {
-        return Err(Refusal::NotAllowed);
-    }
-    Ok(())
-}
-
-// The first fault of the block at a place of a message: its size, and then its fields.
-pub(crate) fn configuration_fault(m: &[u8], at: usize) -> Result<(), Refusal>
-    requires { at + 2 ≤ length m.now }
-    ensures { result ≡ layout_fault cs_configuration m.now at }
-{
-    size_fault(m, at, 9)?;
-    configuration_fields_fault(block_octets(m, at))
-}
-
 impl Fields for CsCapability {
     ghost layout = { cs_capability };
 
@@ -64,6 +35,14 @@ impl Fields for CsCapability {
             security_types: 0,
             address: [0; 6],
         }
+    }
+
+    fn least() -> u8 {
+        9
+    }
+
+    fn fault(_b: &[u8]) -> Result<(), Refusal> {
+        Ok(())
     }
 
     fn has_room(b: &[u8]) -> bool {
@@ -108,6 +87,17 @@ impl Fields for CsConfiguration {
             security_level: 0,
             address: [0; 6],
         }
+    }
+
+    fn least() -> u8 {
+        9
+    }
+
+    fn fault(b: &[u8]) -> Result<(), Refusal> {
+        if !inside(0, 4, b[2]) {
+            return Err(Refusal::NotAllowed);
+        }
+        Ok(())
     }
 
     fn has_room(b: &[u8]) -> bool {

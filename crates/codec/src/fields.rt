@@ -1,8 +1,10 @@
 // The fields of a block: what the struct that holds them does itself, by the layout that 01's table gives the block.
 ghost use Rattle.std.specs.Prelude.{◌≡◌, ◌&&◌, ◌+◌, ◌≤◌, length};
-ghost use Rattle.codec.specs.Layout.{Layout, Values, zeroes, value, write, allowed, cleared, zeroed};
+ghost use Rattle.codec.specs.Layout.{Layout, Values, zeroes, value, write, least, fault, allowed, cleared, zeroed};
 ghost use Rattle.codec.specs.Inner.Places.{roomy, Roomy};
 ghost use Rattle.codec.specs.Inner.Puts.{Put, Held};
+
+use crate::refusal::Refusal;
 
 pub trait Fields: Copy {
     ghost layout: { Layout };
@@ -14,6 +16,15 @@ pub trait Fields: Copy {
     // All fields zero.
     fn zero() -> Self
         ensures { result ≡ made (zeroes layout) };
+
+    // The size that a block has at least, which the first size test is against.
+    fn least() -> u8
+        ensures { result ≡ least layout 2 };
+
+    // The first fault in the fields of a block of that size.
+    fn fault(b: &[u8]) -> Result<(), Refusal>
+        requires { least layout 2 ≤ length b.now }
+        ensures { result ≡ fault layout 2 b.now };
 
     // Whether a block's octets reach past its last field, and what is counted fits its array.
     fn has_room(b: &[u8]) -> bool

@@ -3,11 +3,11 @@ ghost use Rattle.std.specs.Prelude.{◌≡◌, get_or};
 ghost use Rattle.codec.specs.Message.{reading};
 ghost use Rattle.codec.specs.Inner.Places.{Hears};
 
-use crate::checks::{configuration_fault, head_fault, response_fault, set_fault};
+use crate::checks::{blocks_fault, head_fault, set_fault};
 use crate::message::{CAPABILITY_RESPONSE, CONFIGURATION};
 use crate::octets::u16_at;
 use crate::places::NO_PLACE;
-use crate::records::Heard;
+use crate::records::{Capability, Configuration, Heard};
 use crate::refusal::Refusal;
 use crate::technology::SET_LIMIT;
 
@@ -51,12 +51,12 @@ pub fn hear(m: &[u8]) -> Result<Heard, Refusal>
     let id = m[1];
     if id == CONFIGURATION {
         let mut places = [NO_PLACE; 5];
-        configuration_fault(m, &mut places)?;
+        blocks_fault::<Configuration>(m, &mut places)?;
         return Ok(heard_at(u16_at(m, 2) % SET_LIMIT, &places));
     }
     if id == CAPABILITY_RESPONSE {
         let mut places = [NO_PLACE; 5];
-        response_fault(m, &mut places)?;
+        blocks_fault::<Capability>(m, &mut places)?;
         return Ok(heard(id, u16_at(m, 2) % SET_LIMIT));
     }
     set_fault(m)?;

@@ -1,12 +1,15 @@
 // The blocks of a message one by one, for diagnosis.
 ghost use Rattle.std.specs.Prelude.{◌≡◌, ◌+◌, ◌≤◌, length, Some};
+ghost use Rattle.codec.specs.Table.{message_limit, message_of};
+ghost use Rattle.codec.specs.Message.{id_of, body, parse};
 ghost use Rattle.codec.specs.Listing.{no_block, nth_block};
 ghost use Rattle.codec.specs.Inner.Listed.{listed_at, Passes, NthPlace, Starts, Lists};
 
-use crate::checks::{configuration_fault, head_fault, response_fault};
+use crate::checks::{blocks_fault, head_fault};
+use crate::columns::Column;
 use crate::message::{CAPABILITY_RESPONSE, CONFIGURATION};
 use crate::octets::u16_at;
-use crate::records::Block;
+use crate::records::{Block, Capability, Configuration};
 use crate::walker::next_place;
 
 // The block at a place.
@@ -47,21 +50,24 @@ fn nth_place(m: &&[u8], at: usize, left: u32, n: usize) -> Option<usize>
     nth_place(m, next_place(*m, at), left - 1, n - 1)
 }
 
+// The place of the first block of a message with the blocks of a column, if it is not refused.
+fn first_in<C: Column>(m: &[u8]) -> Option<usize>
+    requires { (2 ≤ length m.now) × (length m.now ≤ message_limit) × (id_of m.now ≡ message_of C.column) × (body m.now ≡ parse m.now) }
+    ensures { Starts m.now result }
+{
+    let mut found = [0u16; 5];
+    blocks_fault::<C>(m, &mut found).ok()?;
+    Some(C::blocks_at())
+}
+
 // The place of the first block of a message that carries blocks and is not refused.
 fn first_place(m: &[u8]) -> Option<usize>
     ensures { Starts m.now result }
 {
     head_fault(m).ok()?;
-    let mut found = [0u16; 5];
     match m[1] {
-        CAPABILITY_RESPONSE => {
-            response_fault(m, &mut found).ok()?;
-            Some(4)
-        }
-        CONFIGURATION => {
-            configuration_fault(m, &mut found).ok()?;
-            Some(6)
-        }
+        CAPABILITY_RESPONSE => first_in::<Capability>(m),
+        CONFIGURATION => first_in::<Configuration>(m),
         _ => None,
     }
 }

@@ -8,7 +8,6 @@ ghost use Rattle.codec.specs.Inner.Places.{layout_fault};
 use crate::fields::Fields;
 use crate::octets::{all_zero, inside, padded_at, put, put_first, zero_from};
 use crate::refusal::Refusal;
-use crate::sizes::{block_octets, size_fault};
 
 #[repr(C)]
 #[derive(Clone, Copy)]
@@ -28,57 +27,6 @@ pub struct NanConfiguration {
     pub periodic: u8,
 }
 
-// The first fault in the fields of the capability.
-fn capability_fields_fault(b: &[u8]) -> Result<(), Refusal>
-    requires { 6 ≤ length b.now }
-    ensures { result ≡ fault nan_capability 2 b.now }
-{
-    if !inside(0, 1, b[3]) {
-        return Err(Refusal::NotAllowed);
-    }
-    Ok(())
-}
-
-// The first fault of the block at a place of a message: its size, and then its fields.
-pub(crate) fn capability_fault(m: &[u8], at: usize) -> Result<(), Refusal>
-    requires { at + 2 ≤ length m.now }
-    ensures { result ≡ layout_fault nan_capability m.now at }
-{
-    size_fault(m, at, 6)?;
-    capability_fields_fault(block_octets(m, at))
-}
-
-// The first fault in the fields of the configuration.
-fn configuration_fields_fault(b: &[u8]) -> Result<(), Refusal>
-    requires { 3 ≤ length b.now }
-    ensures { result ≡ fault nan_configuration 2 b.now }
-{
-    if !inside(1, 64, b[2]) {
-        return Err(Refusal::NotAllowed);
-    }
-    let role = 3 + b[2] as usize;
-    let periodic = role + 1;
-    if b.len() < periodic + 1 {
-        return Err(Refusal::BlockTooSmall);
-    }
-    if !inside(0, 1, b[role]) {
-        return Err(Refusal::NotAllowed);
-    }
-    if !inside(0, 1, b[periodic]) {
-        return Err(Refusal::NotAllowed);
-    }
-    Ok(())
-}
-
-// The first fault of the block at a place of a message: its size, and then its fields.
-pub(crate) fn configuration_fault(m: &[u8], at: usize) -> Result<(), Refusal>
-    requires { at + 2 ≤ length m.now }
-    ensures { result ≡ layout_fault nan_configuration m.now at }
-{
-    size_fault(m, at, 3)?;
-    configuration_fields_fault(block_octets(m, at))
-}
-
 impl Fields for NanCapability {
     ghost layout = { nan_capability };
 
@@ -93,6 +41,17 @@ impl Fields for NanCapability {
             bandwidth: 0,
             receive_chains: 0,
         }
+    }
+
+    fn least() -> u8 {
+        6
+    }
+
+    fn fault(b: &[u8]) -> Result<(), Refusal> {
+        if !inside(0, 1, b[3]) {
+            return Err(Refusal::NotAllowed);
+        }
+        Ok(())
     }
 
     fn has_room(b: &[u8]) -> bool {
@@ -143,6 +102,28 @@ impl Fields for NanConfiguration {
             role: 0,
             periodic: 0,
         }
+    }
+
+    fn least() -> u8 {
+        3
+    }
+
+    fn fault(b: &[u8]) -> Result<(), Refusal> {
+        if !inside(1, 64, b[2]) {
+            return Err(Refusal::NotAllowed);
+        }
+        let role = 3 + b[2] as usize;
+        let periodic = role + 1;
+        if b.len() < periodic + 1 {
+            return Err(Refusal::BlockTooSmall);
+        }
+        if !inside(0, 1, b[role]) {
+            return Err(Refusal::NotAllowed);
+        }
+        if !inside(0, 1, b[periodic]) {
+            return Err(Refusal::NotAllowed);
+        }
+        Ok(())
     }
 
     fn has_room(b: &[u8]) -> bool {

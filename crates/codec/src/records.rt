@@ -4,6 +4,7 @@ ghost use Rattle.codec.specs.Blocks.{capabilities, configurations};
 ghost use Rattle.codec.specs.Refusal.{number_of};
 ghost use Rattle.codec.specs.Records.{message_id, refused};
 
+use crate::blocks::fault_by_id;
 use crate::columns::Column;
 use crate::cs::{CsCapability, CsConfiguration};
 use crate::fields::Fields;
@@ -111,6 +112,14 @@ impl Column for Capability {
 
     ghost kept = { λ c. c };
 
+    fn blocks_at() -> usize {
+        4
+    }
+
+    fn fault(m: &[u8], at: usize) -> Result<(), Refusal> {
+        fault_by_id::<UwbCapability, CsCapability, NanCapability>(m, at)
+    }
+
     fn zero() -> Capability {
         Capability {
             uwb: UwbCapability::zero(),
@@ -156,6 +165,14 @@ impl Column for Configuration {
     ghost column = { configurations };
 
     ghost kept = { λ c. c };
+
+    fn blocks_at() -> usize {
+        6
+    }
+
+    fn fault(m: &[u8], at: usize) -> Result<(), Refusal> {
+        fault_by_id::<UwbConfiguration, CsConfiguration, NanConfiguration>(m, at)
+    }
 
     fn zero() -> Configuration {
         Configuration {

@@ -7,20 +7,11 @@ ghost use Rattle.codec.specs.Inner.Places.{layout_fault};
 use crate::fields::Fields;
 use crate::octets::{all_zero, octets_at, put_octets};
 use crate::refusal::Refusal;
-use crate::sizes::size_fault;
 
 #[repr(C)]
 #[derive(Clone, Copy)]
 pub struct Rssi {
     pub address: [u8; 6],
-}
-
-// The first fault of the block at a place of a message: its size.
-pub(crate) fn block_fault(m: &[u8], at: usize) -> Result<(), Refusal>
-    requires { at + 2 ≤ length m.now }
-    ensures { result ≡ layout_fault rssi_block m.now at }
-{
-    size_fault(m, at, 8)
 }
 
 impl Fields for Rssi {
@@ -32,6 +23,14 @@ impl Fields for Rssi {
 
     fn zero() -> Rssi {
         Rssi { address: [0; 6] }
+    }
+
+    fn least() -> u8 {
+        8
+    }
+
+    fn fault(_b: &[u8]) -> Result<(), Refusal> {
+        Ok(())
     }
 
     fn has_room(b: &[u8]) -> bool {

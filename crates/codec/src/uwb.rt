@@ -13,7 +13,6 @@ use crate::octets::{
     u32_at, zero_from,
 };
 use crate::refusal::Refusal;
-use crate::sizes::{block_octets, size_fault};
 
 #[repr(C)]
 #[derive(Clone, Copy)]
@@ -101,29 +100,6 @@ fn allowed_country(pair: [u8; 2]) -> bool
     two_letters(pair) | ((pair[0] == b'0') & (pair[1] == b'0'))
 }
 
-// The first fault in the fields of the capability.
-fn capability_fields_fault(b: &[u8]) -> Result<(), Refusal>
-    requires { 20 ≤ length b.now }
-    ensures { result ≡ fault uwb_capability 2 b.now }
-{
-    if !allowed_interval(u16_at(b, 16)) {
-        return Err(Refusal::NotAllowed);
-    }
-    if !inside(1, 2, b[18]) {
-        return Err(Refusal::NotAllowed);
-    }
-    Ok(())
-}
-
-// The first fault of the block at a place of a message: its size, and then its fields.
-pub(crate) fn capability_fault(m: &[u8], at: usize) -> Result<(), Refusal>
-    requires { at + 2 ≤ length m.now }
-    ensures { result ≡ layout_fault uwb_capability m.now at }
-{
-    size_fault(m, at, 20)?;
-    capability_fields_fault(block_octets(m, at))
-}
-
 // The fields after the key, from the country on.
 fn after_key_fault(b: &[u8], at: usize) -> Result<(), Refusal>
     requires { at + 4 ≤ length b.now }
@@ -141,36 +117,6 @@ fn after_key_fault(b: &[u8], at: usize) -> Result<(), Refusal>
         return Err(Refusal::NotAllowed);
     }
     Ok(())
-}
-
-// The first fault in the fields of the configuration.
-fn configuration_fields_fault(b: &[u8]) -> Result<(), Refusal>
-    requires { 15 ≤ length b.now }
-    ensures { result ≡ fault uwb_configuration 2 b.now }
-{
-    if !allowed_interval(u16_at(b, 11)) {
-        return Err(Refusal::NotAllowed);
-    }
-    if !inside(1, 2, b[13]) {
-        return Err(Refusal::NotAllowed);
-    }
-    if !allowed_key_length(b[14]) {
-        return Err(Refusal::NotAllowed);
-    }
-    let country = 15 + b[14] as usize;
-    if b.len() < country + 4 {
-        return Err(Refusal::BlockTooSmall);
-    }
-    after_key_fault(b, country)
-}
-
-// The first fault of the block at a place of a message: its size, and then its fields.
-pub(crate) fn configuration_fault(m: &[u8], at: usize) -> Result<(), Refusal>
-    requires { at + 2 ≤ length m.now }
-    ensures { result ≡ layout_fault uwb_configuration m.now at }
-{
-    size_fault(m, at, 15)?;
-    configuration_fields_fault(block_octets(m, at))
 }
 
 // Writes the sets of channels, preamble indexes and config IDs.
@@ -237,6 +183,20 @@ impl Fields for UwbCapability {
         }
     }
 
+    fn least() -> u8 {
+        20
+    }
+
+    fn fault(b: &[u8]) -> Result<(), Refusal> {
+        if !allowed_interval(u16_at(b, 16)) {
+            return Err(Refusal::NotAllowed);
+        }
+        if !inside(1, 2, b[18]) {
+            return Err(Refusal::NotAllowed);
+        }
+        Ok(())
+    }
+
     fn has_room(b: &[u8]) -> bool {
         20 <= b.len()
     }
@@ -301,6 +261,27 @@ impl Fields for UwbConfiguration {
             role: 0,
             mode: 0,
         }
+    }
+
+    fn least() -> u8 {
+        15
+    }
+
+    fn fault(b: &[u8]) -> Result<(), Refusal> {
+        if !allowed_interval(u16_at(b, 11)) {
+            return Err(Refusal::NotAllowed);
+        }
+        if !inside(1, 2, b[13]) {
+            return Err(Refusal::NotAllowed);
+        }
+        if !allowed_key_length(b[14]) {
+            return Err(Refusal::NotAllowed);
+        }
+        let country = 15 + b[14] as usize;
+        if b.len() < country + 4 {
+            return Err(Refusal::BlockTooSmall);
+        }
+        after_key_fault(b, country)
     }
 
     fn has_room(b: &[u8]) -> bool {

@@ -1,12 +1,11 @@
-// The walk over the blocks of a message, for each column of blocks. It keeps numbers only.
+// The walk over the blocks of a message, for any column of blocks. It keeps numbers only.
 ghost use Rattle.std.specs.Prelude.{◌≡◌, ◌+◌, ◌≤◌, length, get_or};
-ghost use Rattle.codec.specs.Blocks.{capabilities, configurations};
 ghost use Rattle.codec.specs.Table.{message_limit};
 ghost use Rattle.codec.specs.Message.{set_of, place_after};
 ghost use Rattle.codec.specs.Inner.MetIds.{Met};
 ghost use Rattle.codec.specs.Inner.Places.{id_fault, note, FindsLeft};
 
-use crate::blocks::{capability_fault, configuration_fault};
+use crate::columns::Column;
 use crate::refusal::Refusal;
 use crate::technology::{RESERVED, also_met, has_bit, unmet};
 use crate::walker::next_place;
@@ -41,19 +40,18 @@ fn pass(m: &[u8], at: usize, found: &mut [u16; 5]) -> usize
     next
 }
 
-// The first fault of the blocks of message 1 that are left, from a place on. For none, `found` has the places of the known
-// technologies' blocks and the place after the last block. Of the IDs it keeps one number, `met`, with a bit for each ID met; as many
-// blocks are left as the set has other bits. The message is behind a second reference, so that the compiler makes a loop of the
-// recursion.
-pub(crate) fn walk_capabilities(
+// The first fault of the blocks that are left, from a place on. For none, `found` has the places of the known technologies' blocks and
+// the place after the last block. Of the IDs it keeps one number, `met`, with a bit for each ID met; as many blocks are left as the set
+// has other bits. The message is behind a second reference, so that the compiler makes a loop of the recursion.
+pub(crate) fn walk<C: Column>(
     m: &&[u8],
     at: usize,
     set: u16,
     met: u16,
     found: &mut [u16; 5],
 ) -> Result<(), Refusal>
-    requires { (length m.now.now ≤ message_limit) × (at ≤ length m.now.now) × (length found.old ≡ 5) × (set ≡ set_of m.now.now) × Met capabilities m.now.now at met }
-    ensures { FindsLeft capabilities m.now.now at met found.old result found.new }
+    requires { (length m.now.now ≤ message_limit) × (at ≤ length m.now.now) × (length found.old ≡ 5) × (set ≡ set_of m.now.now) × Met C.column m.now.now at met }
+    ensures { FindsLeft C.column m.now.now at met found.old result found.new }
 {
     let left = u32::count_ones(unmet(set, met));
     if left == 0 {
@@ -61,31 +59,8 @@ pub(crate) fn walk_capabilities(
         return Ok(());
     }
     id_fault(*m, at, set, met)?;
-    capability_fault(*m, at)?;
+    C::fault(*m, at)?;
     let more = also_met(met, m[at]);
     let next = pass(*m, at, found);
-    walk_capabilities(m, next, set, more, found)
-}
-
-// The same of message 2.
-pub(crate) fn walk_configurations(
-    m: &&[u8],
-    at: usize,
-    set: u16,
-    met: u16,
-    found: &mut [u16; 5],
-) -> Result<(), Refusal>
-    requires { (length m.now.now ≤ message_limit) × (at ≤ length m.now.now) × (length found.old ≡ 5) × (set ≡ set_of m.now.now) × Met configurations m.now.now at met }
-    ensures { FindsLeft configurations m.now.now at met found.old result found.new }
-{
-    let left = u32::count_ones(unmet(set, met));
-    if left == 0 {
-        found[4] = at as u16;
-        return Ok(());
-    }
-    id_fault(*m, at, set, met)?;
-    configuration_fault(*m, at)?;
-    let more = also_met(met, m[at]);
-    let next = pass(*m, at, found);
-    walk_configurations(m, next, set, more, found)
+    walk::<C>(m, next, set, more, found)
 }

@@ -31,24 +31,24 @@ module _ (m : List ℕ) (e : Ok tt ≡ head_fault m) where
 pub returns-in_err-head_fault : goal.returns-in_err-head_fault
 returns-in_err-head_fault c = rw (raised _ c.from_residual.ensures.1) (refused_heard _ (reads_refused _ (head_stop _ c.in_err-head_fault.ensures)))
 
-pub returns-in_err-configuration_fault : goal.returns-in_err-configuration_fault
-returns-in_err-configuration_fault c = rw (raised _ c.from_residual-in_err-configuration_fault.ensures.1) (refused_heard _ (refused _ c.in_ok-head_fault.ensures c.in_err-configuration_fault.ensures.judges))
+pub returns-in_err-blocks_fault : goal.returns-in_err-blocks_fault
+returns-in_err-blocks_fault c = rw (raised _ c.from_residual-in_err-blocks_fault.ensures.1) (refused_heard _ (refused _ c.in_ok-head_fault.ensures c.in_err-blocks_fault.ensures.judges))
 
 pub u16_at-requires : goal.u16_at-requires
-u16_at-requires c = (configuration _ c.in_ok-head_fault.ensures c.if-id-eq-CONFIGURATION.true c.in_ok-configuration_fault.ensures).four
+u16_at-requires c = (configuration _ c.in_ok-head_fault.ensures c.if-id-eq-CONFIGURATION.true c.in_ok-blocks_fault.ensures).four
 
 pub returns-then-id-eq-CONFIGURATION : goal.returns-then-id-eq-CONFIGURATION
-returns-then-id-eq-CONFIGURATION c = rw (c.heard_at.ensures, c.u16_at.ensures) (heard_settings (configuration _ c.in_ok-head_fault.ensures c.if-id-eq-CONFIGURATION.true c.in_ok-configuration_fault.ensures) c.if-id-eq-CONFIGURATION.true)
+returns-then-id-eq-CONFIGURATION c = rw (c.heard_at.ensures, c.u16_at.ensures) (heard_settings (configuration _ c.in_ok-head_fault.ensures c.if-id-eq-CONFIGURATION.true c.in_ok-blocks_fault.ensures) c.if-id-eq-CONFIGURATION.true)
 
-pub returns-in_err-response_fault : goal.returns-in_err-response_fault
-returns-in_err-response_fault c = rw (raised _ c.from_residual-in_err-response_fault.ensures.1) (refused_heard _ (refused _ c.in_ok-head_fault.ensures c.in_err-response_fault.ensures.judges))
+pub returns-in_err-blocks_fault-2 : goal.returns-in_err-blocks_fault-2
+returns-in_err-blocks_fault-2 c = rw (raised _ c.from_residual-in_err-blocks_fault-2.ensures.1) (refused_heard _ (refused _ c.in_ok-head_fault.ensures c.in_err-blocks_fault-2.ensures.judges))
 
 pub u16_at-requires-then-id-eq-CAPABILITY_RESPONSE : goal.u16_at-requires-then-id-eq-CAPABILITY_RESPONSE
-u16_at-requires-then-id-eq-CAPABILITY_RESPONSE c = (response _ c.in_ok-head_fault.ensures c.if-id-eq-CAPABILITY_RESPONSE.true c.in_ok-response_fault.ensures).four
+u16_at-requires-then-id-eq-CAPABILITY_RESPONSE c = (response _ c.in_ok-head_fault.ensures c.if-id-eq-CAPABILITY_RESPONSE.true c.in_ok-blocks_fault-2.ensures).four
 
 pub returns-then-id-eq-CAPABILITY_RESPONSE : goal.returns-then-id-eq-CAPABILITY_RESPONSE
 returns-then-id-eq-CAPABILITY_RESPONSE c = rw (c.heard.ensures, c.u16_at-then-id-eq-CAPABILITY_RESPONSE.ensures)
-    (heard_alone (response _ c.in_ok-head_fault.ensures c.if-id-eq-CAPABILITY_RESPONSE.true c.in_ok-response_fault.ensures) c.if-id-eq-CONFIGURATION.false)
+    (heard_alone (response _ c.in_ok-head_fault.ensures c.if-id-eq-CAPABILITY_RESPONSE.true c.in_ok-blocks_fault-2.ensures) c.if-id-eq-CONFIGURATION.false)
 
 pub returns-in_err-set_fault : goal.returns-in_err-set_fault
 returns-in_err-set_fault c = rw (raised _ c.from_residual-in_err-set_fault.ensures.1) (refused_heard _ (refused _ c.in_ok-head_fault.ensures c.in_err-set_fault.ensures))
