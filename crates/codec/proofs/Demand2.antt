@@ -9,7 +9,7 @@ use lib.ListN.{length}
 use lib.Seq.{take_at}
 use borrow.Author.Tests.{le-leb}
 use Rattle.codec.specs.Octets.{Octets}
-use Rattle.codec.specs.Refusal.{Checked, refuse, accept, buffer_too_short, not_valid}
+use Rattle.codec.specs.Refusal.{Checked, Err, Ok, BufferTooShort, NotValid}
 use Rattle.codec.specs.Message.{reading, Reads}
 use Rattle.codec.specs.Records.{accepted, answer}
 use Rattle.codec.specs.WellFormed.{WellFormed}
@@ -29,8 +29,8 @@ use Rattle.codec.proofs.Converse.{record_valid, normal_is}
 
 -- an answer without a refusal accepts
 took : (o : Checked Record) → (answer o).refusal ≡ 0 → answer o ≡ accepted (answer o).value
-took (refuse x) z = absurd (no_zero x z)
-took (accept r) z = refl
+took (Err x) z = absurd (no_zero x z)
+took (Ok r) z = refl
 
 -- so does a call's
 accepts : {m : List ℕ} {a : Reading} → Reads m a → a.refusal ≡ 0 → answer (reading m) ≡ accepted a.value
@@ -39,21 +39,21 @@ accepts {m} {a} h z = subst (λ (b : Reading). b.refusal ≡ 0 → answer (readi
 -- ---- what a call wrote
 
 -- octets were laid out
-laid : (o : Checked (List ℕ)) → (written o).refusal ≡ 0 → (d : List ℕ) → o ≡ accept (octets_written (written o) (buffer o d))
-laid (refuse x) z d = absurd (no_zero x z)
-laid (accept w) z d = ap (λ (l : List ℕ). accept l) (sym (take_at w _ _ refl))
+laid : (o : Checked (List ℕ)) → (written o).refusal ≡ 0 → (d : List ℕ) → o ≡ Ok (octets_written (written o) (buffer o d))
+laid (Err x) z d = absurd (no_zero x z)
+laid (Ok w) z d = ap (λ (l : List ℕ). Ok l) (sym (take_at w _ _ refl))
 
 -- they are the normal form of a valid record
 wrote : (r : Record) {d e : List ℕ} {w : Written} → Writes r d w e → w.refusal ≡ 0 → (valid r ≡ true) × (octets_written w e ≡ normal r)
 unfolding writing
 wrote r {d} {e} {w} h z =
     let o = writing r (length d) in
-    let q : o ≡ accept (octets_written w e) = rw (h.answers, h.leaves) (laid o (rw h.answers at z) d) in
-    demanded (valid r) not_valid (fitting (normal r) (length d)) _ q λ v f.
-    demanded (leb (length (normal r)) (length d)) buffer_too_short (accept (normal r)) _ f λ _ g.
+    let q : o ≡ Ok (octets_written w e) = rw (h.answers, h.leaves) (laid o (rw h.answers at z) d) in
+    demanded (valid r) NotValid (fitting (normal r) (length d)) _ q λ v f.
+    demanded (leb (length (normal r)) (length d)) BufferTooShort (Ok (normal r)) _ f λ _ g.
     (v, same g)
   where
-    same : {u v : List ℕ} → ◌≡◌ {A = Checked (List ℕ)} (accept u) (accept v) → v ≡ u
+    same : {u v : List ℕ} → ◌≡◌ {A = Checked (List ℕ)} (Ok u) (Ok v) → v ≡ u
     same g = cc
 
 fitted : (r : Record) {d e : List ℕ} {w : Written} → Writes r d w e → valid r ≡ true → length (normal r) ≤ length d → (w.refusal ≡ 0) × (w.length ≡ length (normal r))

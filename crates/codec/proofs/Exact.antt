@@ -9,7 +9,7 @@ use lib.Dec.{ltb, eqb}
 use lib.ListN.{length, get_or, drop, take-append-drop, length-drop, drop_of_length-le}
 use lib.Seq.{drop-drop}
 use borrow.Author.Tests.{eqb-true, eq-eqb, ne_eqb, le-leb, ltb-true, ltb-false, lt-ltb, le-ltb, not-true}
-use Rattle.codec.specs.Refusal.{Checked, refuse, accept, and_then, left_over}
+use Rattle.codec.specs.Refusal.{Checked, Err, Ok, and_then, LeftOver}
 use Rattle.codec.specs.Octets.{Octets, part, of_le, to_le}
 use Rattle.codec.specs.Table.{message_limit, readable, Row, row, block_count, layouts_of}
 use Rattle.codec.specs.Message.{version_of, id_of, set_of, sets_agree, blocks_at, no_id, end_fault, blocks_from, after_head, body, parse, record_of, reading}
@@ -55,10 +55,10 @@ head_two (a ∷ []) h = absurd (omega arith)
 head_two (a ∷ (b ∷ m)) h = refl
 
 -- the end of the message
-end_lies : (m : List ℕ) (end : ℕ) → end_fault m end ≡ accept tt → version_of m ≡ 1 → drop end m ≡ []
+end_lies : (m : List ℕ) (end : ℕ) → end_fault m end ≡ Ok tt → version_of m ≡ 1 → drop end m ≡ []
 unfolding end_fault
 end_lies m end e v =
-    demanded (not (eqb (version_of m) 1 && ltb end (length m))) left_over _ tt e λ y e₁.
+    demanded (not (eqb (version_of m) 1 && ltb end (length m))) LeftOver _ tt e λ y e₁.
     let n : (eqb (version_of m) 1 && ltb end (length m)) ≡ false = not-true _ y in
     drop_of_length-le m (ltb-false end (length m) (rw (eq-eqb _ 1 v) at n))
 
@@ -77,7 +77,7 @@ is_readable version id (inr h) = rw (ne_eqb version 1 (λ e. omega arith), lt-lt
 
 -- ---- an accepted message is well formed
 
-forth : (m : List ℕ) → Octets m → (blocks : List (List ℕ)) → parse m ≡ accept blocks → WellFormed m (record_of (id_of m) (set_of m) blocks)
+forth : (m : List ℕ) → Octets m → (blocks : List (List ℕ)) → parse m ≡ Ok blocks → WellFormed m (record_of (id_of m) (set_of m) blocks)
 forth m o blocks e =
     let p = parsed m blocks e in
     let R = row (id_of m) in
@@ -132,7 +132,7 @@ module _ (m : List ℕ) (o : Octets m) (r : Record) (f : WellFormed m r) where
   end : ℕ
   end = blocks_at R.times + length (flatten f.blocks)
 
-  ends_right : end_fault m end ≡ accept tt
+  ends_right : end_fault m end ≡ Ok tt
   unfolding end_fault end
   ends_right =
       by_bool (eqb (version_of m) 1)
@@ -143,7 +143,7 @@ module _ (m : List ℕ) (o : Octets m) (r : Record) (f : WellFormed m r) where
       rw (y, le-ltb end (length m) (omega arith)))
       (λ n. rw n)
 
-  back : parse m ≡ accept f.blocks
+  back : parse m ≡ Ok f.blocks
   unfolding parse body after_head blocks_from end
   back =
       let w = walks (layouts_of R.column) f.set m f.blocks no_id (blocks_at R.times) f.rest placed.0 placed.2 f.whole (fresh_no_id f.blocks) f.once in
@@ -164,10 +164,10 @@ module _ (m : List ℕ) (o : Octets m) (r : Record) (f : WellFormed m r) where
 
 -- ---- the theorem
 
-accept_is : (m : List ℕ) (r : Record) (c : Checked (List (List ℕ))) → answer (and_then c λ blocks. accept (record_of (id_of m) (set_of m) blocks)) ≡ accepted r
-    → (blocks : List (List ℕ)) × (c ≡ accept blocks) × (record_of (id_of m) (set_of m) blocks ≡ r)
-accept_is m r (refuse x) e = absurd (no_zero x (ap (λ (a : Reading). a.refusal) e))
-accept_is m r (accept blocks) e = (blocks, refl, ap (λ (a : Reading). a.value) e)
+accept_is : (m : List ℕ) (r : Record) (c : Checked (List (List ℕ))) → answer (and_then c λ blocks. Ok (record_of (id_of m) (set_of m) blocks)) ≡ accepted r
+    → (blocks : List (List ℕ)) × (c ≡ Ok blocks) × (record_of (id_of m) (set_of m) blocks ≡ r)
+accept_is m r (Err x) e = absurd (no_zero x (ap (λ (a : Reading). a.refusal) e))
+accept_is m r (Ok blocks) e = (blocks, refl, ap (λ (a : Reading). a.value) e)
 
 -- What `read` returns, by its contract, is number 0 and a record exactly where the message is well formed with that record.
 pub exact : (m : List ℕ) → Octets m → (r : Record) → (answer (reading m) ≡ accepted r) ↔ WellFormed m r

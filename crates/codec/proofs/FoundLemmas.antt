@@ -9,18 +9,18 @@ use lib.Dec.{leb, ltb, eqb}
 use lib.ListN.{length, get_or, set, drop, get_or-replicate, length-set, length-drop, take-append-drop}
 use lib.Seq.{get_or-set_same, get_or-set_other}
 use borrow.Author.Tests.{eqb-true, eqb-false, eq-eqb, ne_eqb, lt-ltb, not-true, leb-true}
-use Rattle.codec.specs.Refusal.{Checked, refuse, accept, and_then, too_long, ends_early, reserved_id, wrong_version, sets_differ}
+use Rattle.codec.specs.Refusal.{Refusal, Checked, Err, Ok, and_then, TooLong, EndsEarly, ReservedId, WrongVersion, SetsDiffer}
 use Rattle.codec.specs.Technology.{Technology, technology_id, bit, known, names}
 use Rattle.codec.specs.Layout.{Layout, zeroes, value}
 use Rattle.codec.specs.Blocks.{Column, capabilities, configurations, cell, layouts}
 use Rattle.codec.specs.Table.{message_limit, assigned, readable, message_of, row, block_count, layouts_of, set_in}
-use Rattle.codec.specs.Records.{make, response, settings_record, without_blocks, answer, accepted, refused}
+use Rattle.codec.specs.Records.{make, response, settings_record, without_blocks}
 use Rattle.codec.specs.Message.{version_of, id_of, set_of, sets_agree, blocks_at, block_at, also, no_id, block_fault, Walked, prepend, walk, end_fault, blocks_from, after_head, body, parse, fields_in, record_of, reading}
 use Rattle.codec.specs.WellFormed.{Whole, Each, Has, this, later}
-use Rattle.codec.specs.Inner.Places.{number_in, Roomy, no_place, no_places, note, noted, carries_blocks, Judged, fields_at, column_at, column_found, record_at, Located}
+use Rattle.codec.specs.Inner.Places.{Roomy, no_place, no_places, note, noted, carries_blocks, Judged, fields_at, column_at, column_found, record_at, Placed}
 use Rattle.codec.specs.Octets.{Octets}
 use Rattle.codec.proofs.Counting.{has_some, all_named}
-use Rattle.codec.proofs.Outcomes.{by_bool, by_number, and_true_lem, or_false_lem, demanded, chained}
+use Rattle.codec.proofs.Outcomes.{by_bool, by_verdict, verdict_refused, and_true_lem, or_false_lem, demanded, chained}
 use Rattle.codec.proofs.Layouts.{sound_roomy, roomy_from, value_before, fields_there, no_fields}
 use Rattle.codec.proofs.Cells.{cell_fits, layout_of, technology_below}
 use Rattle.codec.proofs.Rows.{times_one, column_there, none_named}
@@ -90,7 +90,7 @@ module _ (k : Column) (set₀ : ℕ) (m : List ℕ) (t : Technology) where
           let n : eqb (get_or m at 0) id ≡ false = ne_eqb (get_or m at 0) id (λ q. eqb-false id (get_or m at 0) d.0 (sym q)) in
           present (ap (λ (l : List ℕ). get_or l id 0) same ∙ e) d.1 h (rw (s.first, n) f)
 
-  told : (n : ℕ) (came : ℕ → Bool) (at : ℕ) (found : List ℕ) (w : Walked) → length found ≡ 5 → walk (layouts k) set₀ m n came at ≡ accept w → Told came at found w.blocks
+  told : (n : ℕ) (came : ℕ → Bool) (at : ℕ) (found : List ℕ) (w : Walked) → length found ≡ 5 → walk (layouts k) set₀ m n came at ≡ Ok w → Told came at found w.blocks
   unfolding walk
   told zero came at found w l e =
       let q : ◌≡◌ {A = Walked} (record { blocks = []; end = at }) w = cc in
@@ -121,7 +121,7 @@ module _ (k : Column) (set₀ : ℕ) (m : List ℕ) (t : Technology) where
   kept blocks at h (present {p} f c s g) = rw f (block_there p s ∙ sym g)
 
   -- what the reader finds at the place that the walk kept
-  pub keeps : (n at : ℕ) (w : Walked) → length m < no_place → walk (layouts k) set₀ m n no_id at ≡ accept w → fields_at L m (get_or (noted w.blocks at no_places) id 0) ≡ fields_in L id w.blocks
+  pub keeps : (n at : ℕ) (w : Walked) → length m < no_place → walk (layouts k) set₀ m n no_id at ≡ Ok w → fields_at L m (get_or (noted w.blocks at no_places) id 0) ≡ fields_in L id w.blocks
   keeps n at w h e = kept w.blocks at h (told n no_id at no_places w refl e)
 
   held : (blocks : List (List ℕ)) (at : ℕ) → Told no_id at no_places blocks → Has id blocks → Roomy L 2 (drop (get_or (noted blocks at no_places) id 0) m)
@@ -129,7 +129,7 @@ module _ (k : Column) (set₀ : ℕ) (m : List ℕ) (t : Technology) where
   held blocks at (present {p} f c s g) h = rw f (roomy_there p s)
 
   -- and if a block has its ID, it is whole there
-  pub holds : (n at : ℕ) (w : Walked) → walk (layouts k) set₀ m n no_id at ≡ accept w → Has id w.blocks → Roomy L 2 (drop (get_or (noted w.blocks at no_places) id 0) m)
+  pub holds : (n at : ℕ) (w : Walked) → walk (layouts k) set₀ m n no_id at ≡ Ok w → Has id w.blocks → Roomy L 2 (drop (get_or (noted w.blocks at no_places) id 0) m)
   holds n at w e h = held w.blocks at (told n no_id at no_places w refl e) h
 
 -- ---- an accepted message
@@ -143,19 +143,19 @@ pub record Parsed (m : List ℕ) (blocks : List (List ℕ)) : Type 0 where
   pub sets : blocks_at (row (id_of m)).times ≤ length m
   pub agree : sets_agree (row (id_of m)).times m ≡ true
   pub end : ℕ
-  pub walked : walk (layouts_of (row (id_of m)).column) (set_of m) m (block_count (row (id_of m)).column (set_of m)) no_id (blocks_at (row (id_of m)).times) ≡ accept (record { blocks = blocks; end = end })
-  pub ended : end_fault m end ≡ accept tt
+  pub walked : walk (layouts_of (row (id_of m)).column) (set_of m) m (block_count (row (id_of m)).column (set_of m)) no_id (blocks_at (row (id_of m)).times) ≡ Ok (record { blocks = blocks; end = end })
+  pub ended : end_fault m end ≡ Ok tt
 
-pub parsed : (m : List ℕ) (blocks : List (List ℕ)) → parse m ≡ accept blocks → Parsed m blocks
+pub parsed : (m : List ℕ) (blocks : List (List ℕ)) → parse m ≡ Ok blocks → Parsed m blocks
 unfolding parse body after_head blocks_from
 parsed m blocks e =
     let R = row (id_of m) in
-    demanded (leb (length m) message_limit) too_long _ blocks e λ y₁ e₁.
-    demanded (leb 2 (length m)) ends_early _ blocks e₁ λ y₂ e₂.
-    demanded (assigned (id_of m)) reserved_id _ blocks e₂ λ y₃ e₃.
-    demanded (readable (version_of m) (id_of m)) wrong_version _ blocks e₃ λ y₄ e₄.
-    demanded (leb (blocks_at R.times) (length m)) ends_early _ blocks e₄ λ y₅ e₅.
-    demanded (sets_agree R.times m) sets_differ _ blocks e₅ λ y₆ e₆.
+    demanded (leb (length m) message_limit) TooLong _ blocks e λ y₁ e₁.
+    demanded (leb 2 (length m)) EndsEarly _ blocks e₁ λ y₂ e₂.
+    demanded (assigned (id_of m)) ReservedId _ blocks e₂ λ y₃ e₃.
+    demanded (readable (version_of m) (id_of m)) WrongVersion _ blocks e₃ λ y₄ e₄.
+    demanded (leb (blocks_at R.times) (length m)) EndsEarly _ blocks e₄ λ y₅ e₅.
+    demanded (sets_agree R.times m) SetsDiffer _ blocks e₅ λ y₆ e₆.
     chained (walk (layouts_of R.column) (set_of m) m (block_count R.column (set_of m)) no_id (blocks_at R.times)) _ blocks e₆ λ w e₇ e₈.
     chained (end_fault m w.end) _ blocks e₈ λ u e₉ e₁₀.
     let q : w.blocks ≡ blocks = cc in
@@ -167,7 +167,7 @@ parsed m blocks e =
       sets = leb-true _ _ y₅;
       agree = y₆;
       end = w.end;
-      walked = e₇ ∙ ap (λ (bs : List (List ℕ)). accept (record { blocks = bs; end = w.end })) q;
+      walked = e₇ ∙ ap (λ (bs : List (List ℕ)). Ok (record { blocks = bs; end = w.end })) q;
       ended = e₉;
     }
 
@@ -178,7 +178,7 @@ no_block k set t (b ∷ blocks) w n =
     let d : eqb (get_or b 0 0) (technology_id t) ≡ false = ne_eqb (get_or b 0 0) (technology_id t) (λ e. let z : ◌≡◌ {A = ℕ} 0 1 = cc (w.0.named, ap (bit set) e) in omega arith) in
     rw d (no_block k set t blocks w.1 n)
 
-module _ (m : List ℕ) (blocks : List (List ℕ)) (e : parse m ≡ accept blocks) where
+module _ (m : List ℕ) (blocks : List (List ℕ)) (e : parse m ≡ Ok blocks) where
   p : Parsed m blocks
   p = parsed m blocks e
 
@@ -189,8 +189,8 @@ module _ (m : List ℕ) (blocks : List (List ℕ)) (e : parse m ≡ accept block
   start = blocks_at (row (id_of m)).times
 
   -- the walk over the blocks of a column
-  walked_column : (k : Column) → id_of m ≡ message_of k → walk (layouts k) (set_of m) m (block_count (some k) (set_of m)) no_id start ≡ accept (record { blocks = blocks; end = p.end })
-  walked_column k h = subst (λ (c : Option Column). walk (layouts_of c) (set_of m) m (block_count c (set_of m)) no_id start ≡ accept (record { blocks = blocks; end = p.end })) (column_there (id_of m) k (eq-eqb (id_of m) (message_of k) h)) p.walked
+  walked_column : (k : Column) → id_of m ≡ message_of k → walk (layouts k) (set_of m) m (block_count (some k) (set_of m)) no_id start ≡ Ok (record { blocks = blocks; end = p.end })
+  walked_column k h = subst (λ (c : Option Column). walk (layouts_of c) (set_of m) m (block_count c (set_of m)) no_id start ≡ Ok (record { blocks = blocks; end = p.end })) (column_there (id_of m) k (eq-eqb (id_of m) (message_of k) h)) p.walked
 
   kept_here : (k : Column) → id_of m ≡ message_of k → (t : Technology) → fields_at (cell k t) m (get_or (noted blocks start no_places) (technology_id t) 0) ≡ fields_in (cell k t) (technology_id t) blocks
   kept_here k h t = keeps k (set_of m) m t (block_count (some k) (set_of m)) start (record { blocks = blocks; end = p.end }) (omega (arith, p.limit)) (walked_column k h)
@@ -224,33 +224,32 @@ module _ (m : List ℕ) (blocks : List (List ℕ)) (e : parse m ≡ accept block
         let i = all_named (layouts k) (set_of m) (omega (arith, o 2, o 3)) blocks l.whole l.once l.count (technology_id t) n in
         rw (places k h) (holds k (set_of m) m t b start w (walked_column k h) i)
 
-    reads : accepted (record_at m found) ≡ answer (reading m)
+    reads : reading m ≡ Ok (record_at m found)
     unfolding reading
-    reads = rw e (ap accepted record_found)
+    reads = rw e (ap Ok (sym record_found))
 
-pub located : (m : List ℕ) → {f : ℕ} {found : List ℕ} → Judged (carries_blocks (row (id_of m)).column) (parse m) (blocks_at (row (id_of m)).times) no_places f found → Located m f found
-located m {f} {found} j = record {
-  number = j.number;
-  four = λ z. by_number (parse m) (sym j.number ∙ z) λ blocks e. four m blocks e;
-  reads = λ z. by_number (parse m) (sym j.number ∙ z) λ blocks e. reads m blocks e found (λ k. j.places k blocks e);
-  there = λ z. by_number (parse m) (sym j.number ∙ z) λ blocks e. there m blocks e found (λ k. j.places k blocks e);
-}
-
-pub reads_refused : (m : List ℕ) (f : ℕ) → f ≡ number_in (parse m) → (f ≡ 0 → ⊥) → refused f ≡ answer (reading m)
+pub reads_refused : (m : List ℕ) {x : Refusal} → parse m ≡ Err x → reading m ≡ Err x
 unfolding reading
-reads_refused m f e h = go (parse m) e
-  where
-    go : (c : Checked (List (List ℕ))) → f ≡ number_in c → refused f ≡ answer (and_then c λ blocks. accept (record_of (id_of m) (set_of m) blocks))
-    go (refuse x) e = ap refused e
-    go (accept blocks) e = absurd (h e)
+reads_refused m e = rw e
+
+module _ (m : List ℕ) {found : List ℕ} where
+  pub located : Judged (carries_blocks (row (id_of m)).column) (parse m) (blocks_at (row (id_of m)).times) no_places (Ok tt) found → Placed m found
+  located j = record {
+    four = by_verdict (parse m) j.judges λ blocks e. four m blocks e;
+    reads = by_verdict (parse m) j.judges λ blocks e. reads m blocks e found (λ k. j.places k blocks e);
+    there = by_verdict (parse m) j.judges λ blocks e. there m blocks e found (λ k. j.places k blocks e);
+  }
+
+  pub located_refused : {x : Refusal} → Judged (carries_blocks (row (id_of m)).column) (parse m) (blocks_at (row (id_of m)).times) no_places (Err x) found → reading m ≡ Err x
+  located_refused j = reads_refused m (verdict_refused (parse m) j.judges)
 
 -- the record by the kind of a message without a fault
-module _ {m : List ℕ} {f : ℕ} {places : List ℕ} (l : Located m f places) (z : f ≡ 0) where
-  pub response_found : id_of m ≡ message_of capabilities → accepted (response (known (set_of m)) (column_at capabilities m places)) ≡ answer (reading m)
-  response_found h = let e : response (known (set_of m)) (column_at capabilities m places) ≡ record_at m places = rw h in ap accepted e ∙ l.reads z
+module _ {m places : List ℕ} (l : Placed m places) where
+  pub response_found : id_of m ≡ message_of capabilities → reading m ≡ Ok (response (known (set_of m)) (column_at capabilities m places))
+  response_found h = let e : record_at m places ≡ response (known (set_of m)) (column_at capabilities m places) = rw h in l.reads ∙ ap Ok e
 
-  pub configuration_found : id_of m ≡ message_of configurations → accepted (settings_record (known (set_of m)) (column_at configurations m places)) ≡ answer (reading m)
-  configuration_found h = let e : settings_record (known (set_of m)) (column_at configurations m places) ≡ record_at m places = rw h in ap accepted e ∙ l.reads z
+  pub configuration_found : id_of m ≡ message_of configurations → reading m ≡ Ok (settings_record (known (set_of m)) (column_at configurations m places))
+  configuration_found h = let e : record_at m places ≡ settings_record (known (set_of m)) (column_at configurations m places) = rw h in l.reads ∙ ap Ok e
 
-  pub set_found : ((k : Column) → id_of m ≡ message_of k → ⊥) → accepted (without_blocks (id_of m) (known (set_of m))) ≡ answer (reading m)
-  set_found n = let e : without_blocks (id_of m) (known (set_of m)) ≡ record_at m places = rw (ne_eqb (id_of m) 1 (n capabilities), ne_eqb (id_of m) 2 (n configurations)) in ap accepted e ∙ l.reads z
+  pub set_found : ((k : Column) → id_of m ≡ message_of k → ⊥) → reading m ≡ Ok (without_blocks (id_of m) (known (set_of m)))
+  set_found n = let e : record_at m places ≡ without_blocks (id_of m) (known (set_of m)) = rw (ne_eqb (id_of m) 1 (n capabilities), ne_eqb (id_of m) 2 (n configurations)) in l.reads ∙ ap Ok e

@@ -8,7 +8,7 @@ use lib.Dec.{leb, eqb}
 use lib.ListN.{length, get_or, take, drop, length-append, length-take, length-drop, get_or-append}
 use lib.Seq.{take-append-le, drop-append-le}
 use borrow.Author.Tests.{le-leb, leb-true, eqb-true}
-use Rattle.codec.specs.Refusal.{accept, not_allowed, block_too_small}
+use Rattle.codec.specs.Refusal.{Ok, NotAllowed, BlockTooSmall}
 use Rattle.codec.specs.Octets.{part, of_le}
 use Rattle.codec.specs.Layout.{Test, any, one_of, between, Layout, number, octets, counted, member, inside, test, spelled, Values, zeroes, allowed, Typed, write, value, need, least, fault}
 use Rattle.codec.specs.Inner.Places.{roomy, Roomy, fields_at}
@@ -47,14 +47,14 @@ least_from (octets x n t ∷ L) at = omega (arith, least_from L (at + n))
 least_from (counted y x t c ∷ L) at = omega arith
 
 -- a block without a fault reaches past its last field
-pub sound_roomy : (L : Layout) → fits L ≡ true → (at : ℕ) (s : List ℕ) → least L at ≤ length s → fault L at s ≡ accept tt → Roomy L at s
+pub sound_roomy : (L : Layout) → fits L ≡ true → (at : ℕ) (s : List ℕ) → least L at ≤ length s → fault L at s ≡ Ok tt → Roomy L at s
 sound_roomy [] f at s h e = h
-sound_roomy (number x w t ∷ L) f at s h e = demanded (test t (of_le w at s)) not_allowed _ tt e λ y e₁. sound_roomy L f (at + w) s h e₁
-sound_roomy (octets x n t ∷ L) f at s h e = demanded (spelled t (part at n s)) not_allowed _ tt e λ y e₁. sound_roomy L f (at + n) s h e₁
+sound_roomy (number x w t ∷ L) f at s h e = demanded (test t (of_le w at s)) NotAllowed _ tt e λ y e₁. sound_roomy L f (at + w) s h e₁
+sound_roomy (octets x n t ∷ L) f at s h e = demanded (spelled t (part at n s)) NotAllowed _ tt e λ y e₁. sound_roomy L f (at + n) s h e₁
 sound_roomy (counted y x t c ∷ L) f at s h e =
     let g = and_true_lem (bounded t c) (fits L) f in
-    demanded (test t (get_or s at 0)) not_allowed _ tt e λ a e₁.
-    demanded (leb (least L (at + 1 + get_or s at 0)) (length s)) block_too_small _ tt e₁ λ z e₂.
+    demanded (test t (get_or s at 0)) NotAllowed _ tt e λ a e₁.
+    demanded (leb (least L (at + 1 + get_or s at 0)) (length s)) BlockTooSmall _ tt e₁ λ z e₂.
     (bounded_le t c (get_or s at 0) g.0 a, sound_roomy L g.1 (at + 1 + get_or s at 0) s (leb-true _ _ z) e₂)
 
 -- ---- room for the fields
@@ -125,17 +125,17 @@ least_need (counted y x t c ∷ L) at s = omega (arith, least_from L (at + 1 + g
 
 -- ---- a block without a fault holds its need, and its fields are allowed; and the other way round
 
-pub no_fault : (L : Layout) (at : ℕ) (s : List ℕ) → least L at ≤ length s → fault L at s ≡ accept tt → (need L at s ≤ length s) × (allowed L (value L at s) ≡ true)
+pub no_fault : (L : Layout) (at : ℕ) (s : List ℕ) → least L at ≤ length s → fault L at s ≡ Ok tt → (need L at s ≤ length s) × (allowed L (value L at s) ≡ true)
 no_fault [] at s h e = (h, refl)
-no_fault (number x w t ∷ L) at s h e = demanded (test t (of_le w at s)) not_allowed _ tt e λ y e₁. let m = no_fault L (at + w) s h e₁ in (m.0, rw (y, m.1))
-no_fault (octets x n t ∷ L) at s h e = demanded (spelled t (part at n s)) not_allowed _ tt e λ y e₁. let m = no_fault L (at + n) s h e₁ in (m.0, rw (y, m.1))
+no_fault (number x w t ∷ L) at s h e = demanded (test t (of_le w at s)) NotAllowed _ tt e λ y e₁. let m = no_fault L (at + w) s h e₁ in (m.0, rw (y, m.1))
+no_fault (octets x n t ∷ L) at s h e = demanded (spelled t (part at n s)) NotAllowed _ tt e λ y e₁. let m = no_fault L (at + n) s h e₁ in (m.0, rw (y, m.1))
 no_fault (counted y x t c ∷ L) at s h e =
-    demanded (test t (get_or s at 0)) not_allowed _ tt e λ a e₁.
-    demanded (leb (least L (at + 1 + get_or s at 0)) (length s)) block_too_small _ tt e₁ λ z e₂.
+    demanded (test t (get_or s at 0)) NotAllowed _ tt e λ a e₁.
+    demanded (leb (least L (at + 1 + get_or s at 0)) (length s)) BlockTooSmall _ tt e₁ λ z e₂.
     let m = no_fault L (at + 1 + get_or s at 0) s (leb-true _ _ z) e₂ in
     (m.0, rw (a, m.1))
 
-pub fault_none : (L : Layout) (at : ℕ) (s : List ℕ) → need L at s ≤ length s → allowed L (value L at s) ≡ true → fault L at s ≡ accept tt
+pub fault_none : (L : Layout) (at : ℕ) (s : List ℕ) → need L at s ≤ length s → allowed L (value L at s) ≡ true → fault L at s ≡ Ok tt
 fault_none [] at s h e = refl
 fault_none (number x w t ∷ L) at s h e = let a = and_true_lem (test t (of_le w at s)) (allowed L (value L (at + w) s)) e in rw a.0 (fault_none L (at + w) s h a.1)
 fault_none (octets x n t ∷ L) at s h e = let a = and_true_lem (spelled t (part at n s)) (allowed L (value L (at + n) s)) e in rw a.0 (fault_none L (at + n) s h a.1)

@@ -9,7 +9,7 @@ use lib.Dec.{eqb}
 use lib.Count.{ones}
 use lib.ListN.{length, get_or}
 use borrow.Author.Tests.{eqb-true, eq-eqb, ne_eqb, not-true}
-use Rattle.codec.specs.Refusal.{accept}
+use Rattle.codec.specs.Refusal.{Ok}
 use Rattle.codec.specs.Technology.{bit}
 use Rattle.codec.specs.Layout.{Layout}
 use Rattle.codec.specs.Blocks.{Column, layouts}
@@ -45,32 +45,32 @@ append m w = record { blocks = w.blocks ++ (block_at m w.end ∷ []); end = plac
 
 module _ (layouts : ℕ → Layout) (set : ℕ) (m : List ℕ) where
   -- a block without a fault has none after other IDs either, if its own is not among them
-  anew : (came others : ℕ → Bool) (at : ℕ) → block_fault layouts set m came at ≡ accept tt → others (get_or m at 0) ≡ false → block_fault layouts set m others at ≡ accept tt
+  anew : (came others : ℕ → Bool) (at : ℕ) → block_fault layouts set m came at ≡ Ok tt → others (get_or m at 0) ≡ false → block_fault layouts set m others at ≡ Ok tt
   unfolding block_fault
   anew came others at a f =
       let c : came (get_or m at 0) ≡ others (get_or m at 0) = not-true _ (and_true_lem (bit set (get_or m at 0)) _ (sound layouts set m came at a).comes).1 ∙ sym f in
       rw c at a
 
-  walk_append : (n : ℕ) (came others : ℕ → Bool) (at : ℕ) (w : Walked) → walk layouts set m n came at ≡ accept w → block_fault layouts set m others w.end ≡ accept tt
-      → came (get_or m w.end 0) ≡ false → (Has (get_or m w.end 0) w.blocks → ⊥) → walk layouts set m (suc n) came at ≡ accept (append m w)
+  walk_append : (n : ℕ) (came others : ℕ → Bool) (at : ℕ) (w : Walked) → walk layouts set m n came at ≡ Ok w → block_fault layouts set m others w.end ≡ Ok tt
+      → came (get_or m w.end 0) ≡ false → (Has (get_or m w.end 0) w.blocks → ⊥) → walk layouts set m (suc n) came at ≡ Ok (append m w)
   unfolding walk
   walk_append zero came others at w e a f n =
       let q : ◌≡◌ {A = Walked} (record { blocks = []; end = at }) w = cc in
-      subst (λ (w : Walked). block_fault layouts set m others w.end ≡ accept tt → came (get_or m w.end 0) ≡ false → walk layouts set m 1 came at ≡ accept (append m w)) q
+      subst (λ (w : Walked). block_fault layouts set m others w.end ≡ Ok tt → came (get_or m w.end 0) ≡ false → walk layouts set m 1 came at ≡ Ok (append m w)) q
       (λ a f. rw (anew others came at a f)) a f
   walk_append (suc n) came others at w e a f h =
       chained (block_fault layouts set m came at) _ w e λ t b e₁.
       chained (walk layouts set m n (also (get_or m at 0) came) (place_after m at)) _ w e₁ λ v e₂ e₃.
       let q : prepend (block_at m at) v ≡ w = cc in
       let s = sound layouts set m came at b in
-      subst (λ (w : Walked). block_fault layouts set m others w.end ≡ accept tt → came (get_or m w.end 0) ≡ false → (Has (get_or m w.end 0) w.blocks → ⊥) → walk layouts set m (suc (suc n)) came at ≡ accept (append m w)) q
+      subst (λ (w : Walked). block_fault layouts set m others w.end ≡ Ok tt → came (get_or m w.end 0) ≡ false → (Has (get_or m w.end 0) w.blocks → ⊥) → walk layouts set m (suc (suc n)) came at ≡ Ok (append m w)) q
       (λ a f h.
       let other : eqb (get_or m v.end 0) (get_or m at 0) ≡ false = ne_eqb _ _ (λ d. h (this (s.first ∙ sym d))) in
       let ih = walk_append n (also (get_or m at 0) came) others (place_after m at) v e₂ a (rw (other, f)) (λ r. h (later r)) in
       rw (b, ih))
       a f h
 
-  walk_start : (n : ℕ) (came : ℕ → Bool) (at : ℕ) (w : Walked) → walk layouts set m n came at ≡ accept w → w.end ≤ length m → at ≤ length m
+  walk_start : (n : ℕ) (came : ℕ → Bool) (at : ℕ) (w : Walked) → walk layouts set m n came at ≡ Ok w → w.end ≤ length m → at ≤ length m
   unfolding walk
   walk_start zero came at w e l = let q : at ≡ w.end = cc in omega arith
   walk_start (suc n) came at w e l = chained (block_fault layouts set m came at) _ w e λ t a d. omega (arith, (sound layouts set m came at a).two)
@@ -113,7 +113,7 @@ module _ (k : Column) (m : List ℕ) where
         iff_same (bit met id) (bit (set_of m) id) (within id) (λ y. (h.bits id).1 (all_named (layouts k) (set_of m) small h.walked.blocks lies.whole lies.once count id y))
 
     -- after each block
-    module _ (a : block_fault (layouts k) (set_of m) m (bit met) at ≡ accept tt) {more : ℕ} (tall : more < 65536) (b : (id : ℕ) → bit more id ≡ also (get_or m at 0) (bit met) id) where
+    module _ (a : block_fault (layouts k) (set_of m) m (bit met) at ≡ Ok tt) {more : ℕ} (tall : more < 65536) (b : (id : ℕ) → bit more id ≡ also (get_or m at 0) (bit met) id) where
       fresh : bit met (get_or m at 0) ≡ false
       fresh = not-true _ (and_true_lem (bit (set_of m) (get_or m at 0)) _ (sound (layouts k) (set_of m) m (bit met) at a).comes).1
 
@@ -126,7 +126,7 @@ module _ (k : Column) (m : List ℕ) where
       pub met_next : Met k m (place_after m at) more
       met_next =
           let w = h.walked in
-          let a₁ : block_fault (layouts k) (set_of m) m (bit met) w.end ≡ accept tt = rw h.place a in
+          let a₁ : block_fault (layouts k) (set_of m) m (bit met) w.end ≡ Ok tt = rw h.place a in
           let s = sound (layouts k) (set_of m) m (bit met) at a in
           let first : get_or (block_at m w.end) 0 0 ≡ get_or m at 0 = rw h.place s.first in
           record {

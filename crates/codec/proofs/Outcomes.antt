@@ -1,10 +1,12 @@
--- Laws of checks: what an acceptance says of each, and the number of a refusal.
+-- Laws of checks: what an acceptance says of each, and what a refusal is.
 use Prim.Native.Nat.{ℕ}
 use native.Mathlib.Omega.{arith}
 use mathlib.Core.Path.{◌≡◌, refl, sym}
+use Rattle.std.specs.Prelude.{IsErrAnd, Some, None}
+use Rattle.std.specs.Result.{result_ok}
 use mathlib.Core.Bool.{Bool, true, false, ◌&&◌, ◌||◌}
-use Rattle.codec.specs.Refusal.{Refusal, too_long, ends_early, reserved_id, wrong_version, sets_differ, block_too_small, wrong_block, not_allowed, left_over, not_for_tag, buffer_too_short, not_valid, broken_record, number_of, Checked, refuse, accept, demand, and_then}
-use Rattle.codec.specs.Inner.Places.{number_in}
+use Rattle.codec.specs.Refusal.{Refusal, TooLong, EndsEarly, ReservedId, WrongVersion, SetsDiffer, BlockTooSmall, WrongBlock, NotAllowed, LeftOver, NotForTag, BufferTooShort, NotValid, BrokenRecord, number_of, Checked, Err, Ok, demand, and_then}
+use Rattle.codec.specs.Inner.Places.{verdict}
 
 pub by_bool : {C : Type 0} (t : Bool) → (t ≡ true → C) → (t ≡ false → C) → C
 by_bool true f g = f refl
@@ -32,39 +34,57 @@ iff_same false true f g = g refl
 iff_same false false f g = refl
 
 pub no_zero : (x : Refusal) → number_of x ≡ 0 → ⊥
-no_zero too_long e = omega arith
-no_zero ends_early e = omega arith
-no_zero reserved_id e = omega arith
-no_zero wrong_version e = omega arith
-no_zero sets_differ e = omega arith
-no_zero block_too_small e = omega arith
-no_zero wrong_block e = omega arith
-no_zero not_allowed e = omega arith
-no_zero left_over e = omega arith
-no_zero not_for_tag e = omega arith
-no_zero buffer_too_short e = omega arith
-no_zero not_valid e = omega arith
-no_zero broken_record e = omega arith
+no_zero TooLong e = omega arith
+no_zero EndsEarly e = omega arith
+no_zero ReservedId e = omega arith
+no_zero WrongVersion e = omega arith
+no_zero SetsDiffer e = omega arith
+no_zero BlockTooSmall e = omega arith
+no_zero WrongBlock e = omega arith
+no_zero NotAllowed e = omega arith
+no_zero LeftOver e = omega arith
+no_zero NotForTag e = omega arith
+no_zero BufferTooShort e = omega arith
+no_zero NotValid e = omega arith
+no_zero BrokenRecord e = omega arith
+
+-- a refusal is no acceptance
+pub not_both : {A C : Type 0} {x : Refusal} {a : A} → ◌≡◌ {A = Checked A} (Err x) (Ok a) → C
+not_both e = let z : ◌≡◌ {A = ℕ} 0 1 = cc in absurd (omega arith)
+
+-- what a `?` returns of a refusal
+pub raised : {A : Type 0} (r : Checked A) {x : Refusal} → IsErrAnd r (λ e. e ≡ x) → r ≡ Err x
+raised (Ok a) e = absurd e
+raised (Err y) e = rw e
+
+-- and what `ok` leaves of checks that find nothing
+pub ok_none : {C : Type 0} (c : Checked (Unit {0})) → result_ok c ≡ None → ((x : Refusal) → Err x ≡ c → C) → C
+ok_none (Err x) e k = k x refl
+ok_none (Ok u) e k = let z : ◌≡◌ {A = ℕ} 0 1 = cc in absurd (omega arith)
+
+pub ok_some : (c : Checked (Unit {0})) {u : Unit {0}} → result_ok c ≡ Some u → Ok tt ≡ c
+ok_some (Err x) e = let z : ◌≡◌ {A = ℕ} 0 1 = cc in absurd (omega arith)
+ok_some (Ok u) e = refl
+
+pub verdict_refused : {A : Type 0} (c : Checked A) {x : Refusal} → Err x ≡ verdict c → c ≡ Err x
+verdict_refused (Err y) {x} e = let q : x ≡ y = cc in rw q
+verdict_refused (Ok a) e = not_both e
 
 module _ {A C : Type 0} where
-  -- number 0 is given exactly where nothing is refused
-  pub by_number : (c : Checked A) → number_in c ≡ 0 → ((a : A) → c ≡ accept a → C) → C
-  by_number (refuse x) e k = absurd (no_zero x e)
-  by_number (accept a) e k = k a refl
+  -- nothing is refused exactly where something is found
+  pub by_verdict : (c : Checked A) → Ok tt ≡ verdict c → ((a : A) → c ≡ Ok a → C) → C
+  by_verdict (Err x) e k = not_both (sym e)
+  by_verdict (Ok a) e k = k a refl
 
-  pub demanded : (t : Bool) (x : Refusal) (c : Checked A) (a : A) → demand t x c ≡ accept a → (t ≡ true → c ≡ accept a → C) → C
+  pub demanded : (t : Bool) (x : Refusal) (c : Checked A) (a : A) → demand t x c ≡ Ok a → (t ≡ true → c ≡ Ok a → C) → C
   demanded true x c a e k = k refl e
   demanded false x c a e k = let z : ◌≡◌ {A = ℕ} 0 1 = cc in absurd (omega arith)
 
-pub no_number : (c : Checked (Unit {0})) → number_in c ≡ 0 → c ≡ accept tt
-no_number (refuse x) e = absurd (no_zero x e)
-no_number (accept u) e = refl
+pub chained : {A B C : Type 0} (c : Checked A) (rest : A → Checked B) (b : B) → and_then c rest ≡ Ok b → ((a : A) → c ≡ Ok a → rest a ≡ Ok b → C) → C
+chained (Err x) rest b e k = let z : ◌≡◌ {A = ℕ} 0 1 = cc in absurd (omega arith)
+chained (Ok a) rest b e k = k a refl e
 
-pub chained : {A B C : Type 0} (c : Checked A) (rest : A → Checked B) (b : B) → and_then c rest ≡ accept b → ((a : A) → c ≡ accept a → rest a ≡ accept b → C) → C
-chained (refuse x) rest b e k = let z : ◌≡◌ {A = ℕ} 0 1 = cc in absurd (omega arith)
-chained (accept a) rest b e k = k a refl e
-
--- the number of a test that fails stays, whatever follows
-pub demand_stop : {A B : Type 0} (t : Bool) (x : Refusal) (c : Checked A) (d : Checked B) {f : ℕ} → (f ≡ number_in c → f ≡ number_in d) → f ≡ number_in (demand t x c) → f ≡ number_in (demand t x d)
+-- the refusal of a test that fails stays, whatever follows
+pub demand_stop : {A B : Type 0} (t : Bool) (x : Refusal) (c : Checked A) (d : Checked B) {y : Refusal} → (Err y ≡ c → Err y ≡ d) → Err y ≡ demand t x c → Err y ≡ demand t x d
 demand_stop true x c d k e = k e
-demand_stop false x c d k e = e
+demand_stop false x c d {y} k e = let q : y ≡ x = cc in rw q

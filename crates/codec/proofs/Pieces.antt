@@ -9,7 +9,7 @@ use lib.Dec.{eqb}
 use lib.ListN.{length, length-append}
 use lib.Seq.{length-take-le}
 use borrow.Author.Tests.{eqb-true, eq-eqb, lt-leb, le-leb}
-use Rattle.codec.specs.Refusal.{number_of, buffer_too_short, not_valid}
+use Rattle.codec.specs.Refusal.{number_of, BufferTooShort, NotValid}
 use Rattle.codec.specs.Octets.{to_le, all_zero}
 use Rattle.codec.specs.Technology.{Technology, uwb, cs, nan, rssi, technology_id, technologies, names}
 use Rattle.codec.specs.Layout.{Layout, number, octets, counted, test, spelled, Values, zeroes, allowed, cleared, zeroed, write}
@@ -138,11 +138,11 @@ uncounted c rssi = tt
 -- ---- the writer's answers
 
 module _ (r : Record) (d : List ℕ) where
-  pub not_valid_lem : valid r ≡ false → Writes r d (record { refusal = number_of not_valid; length = 0 }) d
+  pub not_valid_lem : valid r ≡ false → Writes r d (record { refusal = number_of NotValid; length = 0 }) d
   unfolding writing
   not_valid_lem h = record { answers = rw h; leaves = rw h }
 
-  pub too_short : valid r ≡ true → length d < length (normal r) → Writes r d (record { refusal = number_of buffer_too_short; length = 0 }) d
+  pub too_short : valid r ≡ true → length d < length (normal r) → Writes r d (record { refusal = number_of BufferTooShort; length = 0 }) d
   unfolding writing
   too_short h l = let b = lt-leb (length (normal r)) (length d) l in record { answers = rw (h, b); leaves = rw (h, b) }
 

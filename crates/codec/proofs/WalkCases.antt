@@ -10,15 +10,15 @@ use lib.Dec.{leb}
 use lib.ListN.{length, get_or, drop, set, length-set}
 use lib.Seq.{get_or-take, get_or-drop, get_or-set_same}
 use borrow.Author.Tests.{le-leb, leb-true}
-use Rattle.codec.specs.Refusal.{Checked, refuse, accept, and_then, ends_early, wrong_block, block_too_small}
+use Rattle.codec.specs.Refusal.{Refusal, Checked, Err, Ok, and_then, EndsEarly, WrongBlock, BlockTooSmall}
 use Rattle.codec.specs.Layout.{Layout, least, fault}
 use Rattle.codec.specs.Technology.{bit}
 use Rattle.codec.specs.Blocks.{Column, layouts}
 use Rattle.codec.specs.Message.{set_of, block_at, place_after, also, block_fault, Walked, prepend, walk}
 use Rattle.codec.specs.Inner.MetIds.{blocks_left}
-use Rattle.codec.specs.Inner.Places.{number_in, size_fault, layout_fault, fields_fault, id_fault, note, noted, Finds, FindsLeft}
+use Rattle.codec.specs.Inner.Places.{size_fault, layout_fault, fields_fault, id_fault, note, noted, Finds, FindsLeft}
 use Rattle.codec.proofs.Laws.{part_length}
-use Rattle.codec.proofs.Outcomes.{by_number, demanded, demand_stop}
+use Rattle.codec.proofs.Outcomes.{not_both, demanded, demand_stop}
 use Rattle.codec.proofs.Layouts.{least_from}
 
 -- ---- a block's size, and then its fields by a layout
@@ -30,29 +30,27 @@ module _ (L : Layout) (m : List ℕ) (at : ℕ) where
   abbrev whole : Bool
   whole = leb (at + get_or m (at + 1) 0) (length m)
 
-  module _ {f : ℕ} (e : f ≡ number_in (size_fault (least L 2) m at)) where
-    pub size_stop : (f ≡ 0 → ⊥) → f ≡ number_in (layout_fault L m at)
-    size_stop h = demand_stop enough block_too_small _ _ (demand_stop whole ends_early _ _ (λ z. absurd (h z))) e
+  pub size_stop : {x : Refusal} → Err x ≡ size_fault (least L 2) m at → Err x ≡ layout_fault L m at
+  size_stop e = demand_stop enough BlockTooSmall _ _ (demand_stop whole EndsEarly _ _ not_both) e
 
-    -- what a size without a fault says
-    module _ (z : f ≡ 0) where
-      hold : (enough ≡ true) × (whole ≡ true)
-      hold = by_number (size_fault (least L 2) m at) (sym e ∙ z) λ u a. demanded enough block_too_small _ u a λ p b. demanded whole ends_early _ u b λ q d. (p, q)
+  -- what a size without a fault says
+  module _ (e : Ok tt ≡ size_fault (least L 2) m at) where
+    hold : (enough ≡ true) × (whole ≡ true)
+    hold = demanded enough BlockTooSmall _ tt (sym e) λ p b. demanded whole EndsEarly _ tt b λ q d. (p, q)
 
-      pub size_whole : at + get_or m (at + 1) 0 ≤ length m
-      size_whole = leb-true _ _ hold.1
+    pub size_whole : at + get_or m (at + 1) 0 ≤ length m
+    size_whole = leb-true _ _ hold.1
 
-      pub size_enough : {n : ℕ} → n ≡ get_or m (at + 1) 0 → least L 2 ≤ n
-      size_enough q = rw q (leb-true _ _ hold.0)
+    pub size_enough : {n : ℕ} → n ≡ get_or m (at + 1) 0 → least L 2 ≤ n
+    size_enough q = rw q (leb-true _ _ hold.0)
 
-      pub size_next : {g : ℕ} → g ≡ number_in (fault L 2 (block_at m at)) → g ≡ number_in (layout_fault L m at)
-      size_next q = rw (hold.0, hold.1) q
+    pub size_next : {r : Checked (Unit {0})} → r ≡ fault L 2 (block_at m at) → r ≡ layout_fault L m at
+    size_next q = rw (hold.0, hold.1) q
 
-  pub fields_whole : {f : ℕ} → f ≡ number_in (layout_fault L m at) → f ≡ 0 → at + get_or m (at + 1) 0 ≤ length m
-  fields_whole e z =
-      by_number (layout_fault L m at) (sym e ∙ z) λ u a.
-      demanded enough block_too_small _ u a λ p b.
-      demanded whole ends_early _ u b λ q d. leb-true _ _ q
+  pub fields_whole : Ok tt ≡ layout_fault L m at → at + get_or m (at + 1) 0 ≤ length m
+  fields_whole e =
+      demanded enough BlockTooSmall _ tt (sym e) λ p b.
+      demanded whole EndsEarly _ tt b λ q d. leb-true _ _ q
 
 -- ---- one turn of the walk
 
@@ -66,17 +64,17 @@ module _ (layouts : ℕ → Layout) (set₀ : ℕ) (m : List ℕ) (came : ℕ �
     pub comes : may_come set₀ m came at ≡ true
     pub enough : least (layouts (get_or m at 0)) 2 ≤ get_or m (at + 1) 0
     pub whole : at + get_or m (at + 1) 0 ≤ length m
-    pub fields : fault (layouts (get_or m at 0)) 2 (block_at m at) ≡ accept tt
+    pub fields : fault (layouts (get_or m at 0)) 2 (block_at m at) ≡ Ok tt
     pub size : length (block_at m at) ≡ get_or m (at + 1) 0
     pub first : get_or (block_at m at) 0 0 ≡ get_or m at 0
 
-  pub sound : block_fault layouts set₀ m came at ≡ accept tt → Sound
+  pub sound : block_fault layouts set₀ m came at ≡ Ok tt → Sound
   unfolding block_fault
   sound e =
-      demanded (leb (at + 2) (length m)) ends_early _ tt e λ y₁ e₁.
-      demanded (may_come set₀ m came at) wrong_block _ tt e₁ λ y₂ e₂.
-      demanded (leb (least (layouts (get_or m at 0)) 2) (get_or m (at + 1) 0)) block_too_small _ tt e₂ λ y₃ e₃.
-      demanded (leb (at + get_or m (at + 1) 0) (length m)) ends_early _ tt e₃ λ y₄ e₄.
+      demanded (leb (at + 2) (length m)) EndsEarly _ tt e λ y₁ e₁.
+      demanded (may_come set₀ m came at) WrongBlock _ tt e₁ λ y₂ e₂.
+      demanded (leb (least (layouts (get_or m at 0)) 2) (get_or m (at + 1) 0)) BlockTooSmall _ tt e₂ λ y₃ e₃.
+      demanded (leb (at + get_or m (at + 1) 0) (length m)) EndsEarly _ tt e₃ λ y₄ e₄.
       let enough = leb-true _ _ y₃ in
       let whole = leb-true _ _ y₄ in
       let some : 0 < get_or m (at + 1) 0 = omega (arith, least_from (layouts (get_or m at 0)) 2) in
@@ -91,27 +89,22 @@ module _ (layouts : ℕ → Layout) (set₀ : ℕ) (m : List ℕ) (came : ℕ �
       }
 
   -- one turn of the walk, by the IDs that came before
-  find_stop : (n f : ℕ) (found left : List ℕ) → (n ≡ 0 → ⊥) → f ≡ number_in (block_fault layouts set₀ m came at) → (f ≡ 0 → ⊥) → Finds (walk layouts set₀ m n came at) at found f left
+  find_stop : (n : ℕ) {x : Refusal} (found : List ℕ) → (n ≡ 0 → ⊥) → Err x ≡ block_fault layouts set₀ m came at → Finds (walk layouts set₀ m n came at) at found (Err x) found
   unfolding walk
-  find_stop zero f found left n e h = absurd (n refl)
-  find_stop (suc n) f found left p e h = go (block_fault layouts set₀ m came at) e
-    where
-      go : (c : Checked (Unit {0})) → f ≡ number_in c
-          → Finds (and_then c λ _. and_then (walk layouts set₀ m n (also (get_or m at 0) came) (at + get_or m (at + 1) 0)) λ w. accept (prepend (block_at m at) w)) at found f left
-      go (refuse x) e = e
-      go (accept u) e = absurd (h e)
+  find_stop zero found n e = absurd (n refl)
+  find_stop (suc n) found p e = rw (← e)
 
-  find_next : (n f : ℕ) (found left : List ℕ) → (n ≡ 0 → ⊥) → Sound → block_fault layouts set₀ m came at ≡ accept tt
-      → Finds (walk layouts set₀ m (n - 1) (also (get_or m at 0) came) (at + get_or m (at + 1) 0)) (at + get_or m (at + 1) 0) (note (get_or m at 0) at found) f left
-      → Finds (walk layouts set₀ m n came at) at found f left
+  find_next : (n : ℕ) (r : Checked (Unit {0})) (found left : List ℕ) → (n ≡ 0 → ⊥) → Sound → block_fault layouts set₀ m came at ≡ Ok tt
+      → Finds (walk layouts set₀ m (n - 1) (also (get_or m at 0) came) (at + get_or m (at + 1) 0)) (at + get_or m (at + 1) 0) (note (get_or m at 0) at found) r left
+      → Finds (walk layouts set₀ m n came at) at found r left
   unfolding walk
-  find_next zero f found left p s a h = absurd (p refl)
-  find_next (suc n) f found left p s a h = rw a (go (walk layouts set₀ m n (also (get_or m at 0) came) (at + get_or m (at + 1) 0)) (rw (sub-one (suc n)) at h))
+  find_next zero r found left p s a h = absurd (p refl)
+  find_next (suc n) r found left p s a h = rw a (go (walk layouts set₀ m n (also (get_or m at 0) came) (at + get_or m (at + 1) 0)) (rw (sub-one (suc n)) at h))
     where
-      go : (c : Checked Walked) → Finds c (at + get_or m (at + 1) 0) (note (get_or m at 0) at found) f left
-          → Finds (and_then c λ w. accept (prepend (block_at m at) w)) at found f left
-      go (refuse x) h = h
-      go (accept w) h =
+      go : (c : Checked Walked) → Finds c (at + get_or m (at + 1) 0) (note (get_or m at 0) at found) r left
+          → Finds (and_then c λ w. Ok (prepend (block_at m at) w)) at found r left
+      go (Err x) h = h
+      go (Ok w) h =
           let e : noted (prepend (block_at m at) w).blocks at found ≡ noted w.blocks (at + get_or m (at + 1) 0) (note (get_or m at 0) at found) = λ i. noted w.blocks (at + s.size i) (note (s.first i) at found) in
           (h.0, h.1 ∙ sym e, h.2)
 
@@ -123,38 +116,36 @@ module _ (m : List ℕ) (at met : ℕ) where
     pub two : at + 2 ≤ length m
     pub comes : may_come (set_of m) m (bit met) at ≡ true
 
-  module _ {f : ℕ} (e : f ≡ number_in (id_fault (set_of m) met m at)) where
-    pub headed : f ≡ 0 → Headed
-    headed z =
-        by_number (id_fault (set_of m) met m at) (sym e ∙ z) λ u a.
-        demanded (leb (at + 2) (length m)) ends_early _ u a λ p b.
-        demanded (may_come (set_of m) m (bit met) at) wrong_block _ u b λ q d.
-        record { two = leb-true _ _ p; comes = q }
+  pub headed : Ok tt ≡ id_fault (set_of m) met m at → Headed
+  headed e =
+      demanded (leb (at + 2) (length m)) EndsEarly _ tt (sym e) λ p b.
+      demanded (may_come (set_of m) m (bit met) at) WrongBlock _ tt b λ q d.
+      record { two = leb-true _ _ p; comes = q }
 
-    pub head_stop : (k : Column) → (f ≡ 0 → ⊥) → f ≡ number_in (block_fault (layouts k) (set_of m) m (bit met) at)
+  module _ (k : Column) where
+    pub head_stop : {x : Refusal} → Err x ≡ id_fault (set_of m) met m at → Err x ≡ block_fault (layouts k) (set_of m) m (bit met) at
     unfolding block_fault
-    head_stop k h = demand_stop (leb (at + 2) (length m)) ends_early _ _ (demand_stop (may_come (set_of m) m (bit met) at) wrong_block _ _ (λ z. absurd (h z))) e
+    head_stop e = demand_stop (leb (at + 2) (length m)) EndsEarly _ _ (demand_stop (may_come (set_of m) m (bit met) at) WrongBlock _ _ not_both) e
 
-  pub head_next : (k : Column) → Headed → {f : ℕ} → f ≡ number_in (fields_fault (layouts k) m at) → f ≡ number_in (block_fault (layouts k) (set_of m) m (bit met) at)
-  unfolding block_fault
-  head_next k d e = rw (le-leb (at + 2) (length m) d.two, d.comes) e
+    pub head_next : Headed → {r : Checked (Unit {0})} → r ≡ fields_fault (layouts k) m at → r ≡ block_fault (layouts k) (set_of m) m (bit met) at
+    unfolding block_fault
+    head_next d e = rw (le-leb (at + 2) (length m) d.two, d.comes) e
 
 module _ (k : Column) (m : List ℕ) (at met : ℕ) (found : List ℕ) (all : blocks_left m met ≡ 0 → met ≡ set_of m) where
-  pub turn_none : blocks_left m met ≡ 0 → length found ≡ 5 → FindsLeft k m at met found 0 (set found 4 at)
+  pub turn_none : blocks_left m met ≡ 0 → length found ≡ 5 → FindsLeft k m at met found (Ok tt) (set found 4 at)
   unfolding walk
   turn_none z l = record { finds = rw z (refl, refl, get_or-set_same found 4 at 0 (omega arith)); all = all; size = length-set found 4 at ∙ l }
 
-  module _ (some : blocks_left m met ≡ 0 → ⊥) {f : ℕ} (e : f ≡ number_in (block_fault (layouts k) (set_of m) m (bit met) at)) where
-    pub turn_stop : (f ≡ 0 → ⊥) → length found ≡ 5 → FindsLeft k m at met found f found
-    turn_stop h l = record { finds = find_stop (layouts k) (set_of m) m (bit met) at (blocks_left m met) f found found some e h; all = all; size = l }
+  module _ (some : blocks_left m met ≡ 0 → ⊥) where
+    pub turn_stop : {x : Refusal} → Err x ≡ block_fault (layouts k) (set_of m) m (bit met) at → length found ≡ 5 → FindsLeft k m at met found (Err x) found
+    turn_stop e l = record { finds = find_stop (layouts k) (set_of m) m (bit met) at (blocks_left m met) found some e; all = all; size = l }
 
-    pub turn_next : f ≡ 0 → {more : ℕ} → ((id : ℕ) → bit more id ≡ also (get_or m at 0) (bit met) id) → blocks_left m more ≡ blocks_left m met - 1 → {g : ℕ} {after : List ℕ}
-        → FindsLeft k m (place_after m at) more (note (get_or m at 0) at found) g after → FindsLeft k m at met found g after
-    turn_next z {more} b n {g} {after} h = record {
+    pub turn_next : block_fault (layouts k) (set_of m) m (bit met) at ≡ Ok tt → {more : ℕ} → ((id : ℕ) → bit more id ≡ also (get_or m at 0) (bit met) id) → blocks_left m more ≡ blocks_left m met - 1
+        → {r : Checked (Unit {0})} {after : List ℕ} → FindsLeft k m (place_after m at) more (note (get_or m at 0) at found) r after → FindsLeft k m at met found r after
+    turn_next a {more} b n {r} {after} h = record {
       finds =
-          by_number (block_fault (layouts k) (set_of m) m (bit met) at) (sym e ∙ z) λ u a.
           let came : bit more ≡ also (get_or m at 0) (bit met) = λ i id. b id i in
-          find_next (layouts k) (set_of m) m (bit met) at (blocks_left m met) g found after some (sound (layouts k) (set_of m) m (bit met) at a) a (rw (came, n) at h.finds);
+          find_next (layouts k) (set_of m) m (bit met) at (blocks_left m met) r found after some (sound (layouts k) (set_of m) m (bit met) at a) a (rw (came, n) at h.finds);
       all = all;
       size = h.size;
     }

@@ -7,14 +7,14 @@ use mathlib.Core.Bool.{not, ◌&&◌}
 use mathlib.Core.List.{List}
 use lib.Count.{ones}
 use lib.ListN.{length, get_or, set}
-use Rattle.codec.specs.Refusal.{accept}
+use Rattle.codec.specs.Refusal.{Refusal, Checked, Err, Ok}
 use Rattle.codec.specs.Technology.{bit}
 use Rattle.codec.specs.Blocks.{Column, layouts}
 use Rattle.codec.specs.Message.{set_of, place_after, also, block_fault}
 use Rattle.codec.specs.Inner.MetIds.{Met, blocks_left}
-use Rattle.codec.specs.Inner.Places.{number_in, fields_fault, id_fault, note, FindsLeft}
+use Rattle.codec.specs.Inner.Places.{fields_fault, id_fault, note, FindsLeft}
 use Rattle.codec.proofs.Bits.{bit_under}
-use Rattle.codec.proofs.Outcomes.{and_true_lem, no_number}
+use Rattle.codec.proofs.Outcomes.{and_true_lem}
 use Rattle.codec.proofs.WalkCases.{fields_whole, Headed, headed, head_stop, head_next, turn_none, turn_stop, turn_next}
 use Rattle.codec.proofs.MetIds.{met_left, met_all, met_fewer, met_next}
 
@@ -29,23 +29,20 @@ module _ (k : Column) (m : List ℕ) (at unset met : ℕ) (s : unset ≡ set_of 
     left : ones unmet ≡ blocks_left m met
     left = met_left _ _ h inside small short l (rw s at u)
 
-    pub none_left : {found : List ℕ} → length found ≡ 5 → ones unmet ≡ 0 → FindsLeft k m at met found 0 (set found 4 at)
+    pub none_left : {found : List ℕ} → length found ≡ 5 → ones unmet ≡ 0 → FindsLeft k m at met found (Ok tt) (set found 4 at)
     none_left size z = turn_none _ _ _ _ _ all (sym left ∙ z) size
 
-    module _ (n : ones unmet ≡ 0 → ⊥) {f : ℕ} (e : f ≡ number_in (id_fault unset met m at)) where
+    module _ (n : ones unmet ≡ 0 → ⊥) where
       some : blocks_left m met ≡ 0 → ⊥
       some z = n (left ∙ z)
 
       -- the head of the block
-      head : f ≡ number_in (id_fault (set_of m) met m at)
-      head = rw s at e
+      pub stops_at_head : {x : Refusal} {found : List ℕ} → Err x ≡ id_fault unset met m at → length found ≡ 5 → FindsLeft k m at met found (Err x) found
+      stops_at_head e size = turn_stop _ _ _ _ _ all some (head_stop m at met k (rw s at e)) size
 
-      pub stops_at_head : {found : List ℕ} → length found ≡ 5 → (f ≡ 0 → ⊥) → FindsLeft k m at met found f found
-      stops_at_head size y = turn_stop _ _ _ _ _ all some (head_stop m at met head k y) y size
-
-      module _ (z : f ≡ 0) where
+      module _ (e : Ok tt ≡ id_fault unset met m at) where
         here : Headed m at met
-        here = headed _ _ _ head z
+        here = headed _ _ _ (rw s at e)
 
         pub two : at + 2 ≤ length m
         two = here.two
@@ -54,29 +51,25 @@ module _ (k : Column) (m : List ℕ) (at unset met : ℕ) (s : unset ≡ set_of 
         under_16 = bit_under 16 _ small _ (and_true_lem _ _ here.comes).0
 
         -- then the whole block
-        module _ {g : ℕ} (b : g ≡ number_in (fields_fault (layouts k) m at)) where
-          block : g ≡ number_in (block_fault (layouts k) (set_of m) m (bit met) at)
-          block = head_next _ _ _ k here b
+        pub stops_at_block : {x : Refusal} {found : List ℕ} → Err x ≡ fields_fault (layouts k) m at → length found ≡ 5 → FindsLeft k m at met found (Err x) found
+        stops_at_block b size = turn_stop _ _ _ _ _ all some (head_next _ _ _ k here b) size
 
-          pub stops_at_block : {found : List ℕ} → length found ≡ 5 → (g ≡ 0 → ⊥) → FindsLeft k m at met found g found
-          stops_at_block size y = turn_stop _ _ _ _ _ all some block y size
+        -- and the blocks after it
+        module _ (b : Ok tt ≡ fields_fault (layouts k) m at) {more : ℕ} (r : more < 65536) (o : (id : ℕ) → bit more id ≡ also (get_or m at 0) (bit met) id) where
+          sound : block_fault (layouts k) (set_of m) m (bit met) at ≡ Ok tt
+          sound = sym (head_next _ _ _ k here b)
 
-          -- and the blocks after it
-          module _ (y : g ≡ 0) {more : ℕ} (r : more < 65536) (o : (id : ℕ) → bit more id ≡ also (get_or m at 0) (bit met) id) where
-            sound : block_fault (layouts k) (set_of m) m (bit met) at ≡ accept tt
-            sound = no_number _ (sym block ∙ y)
+          fewer : blocks_left m more ≡ blocks_left m met - 1
+          fewer = met_fewer _ _ h inside small short sound r o
 
-            fewer : blocks_left m more ≡ blocks_left m met - 1
-            fewer = met_fewer _ _ h inside small short sound r o
+          pub less : ones unset - ones more < ones unset - ones met
+          less = rw s (omega (arith, pos_of_ne-zero some, fewer))
 
-            pub less : ones unset - ones more < ones unset - ones met
-            less = rw s (omega (arith, pos_of_ne-zero some, fewer))
+          pub next_inside : place_after m at ≤ length m
+          next_inside = fields_whole (layouts k (get_or m at 0)) m at b
 
-            pub next_inside : place_after m at ≤ length m
-            next_inside = fields_whole (layouts k (get_or m at 0)) m at b y
+          pub next_met : Met k m (place_after m at) more
+          next_met = met_next _ _ h inside small short sound r o
 
-            pub next_met : Met k m (place_after m at) more
-            next_met = met_next _ _ h inside small short sound r o
-
-            pub goes_on : {found : List ℕ} {q : ℕ} {after : List ℕ} → FindsLeft k m (place_after m at) more (note (get_or m at 0) at found) q after → FindsLeft k m at met found q after
-            goes_on w = turn_next _ _ _ _ _ all some block y o fewer w
+          pub goes_on : {found : List ℕ} {q : Checked (Unit {0})} {after : List ℕ} → FindsLeft k m (place_after m at) more (note (get_or m at 0) at found) q after → FindsLeft k m at met found q after
+          goes_on w = turn_next _ _ _ _ _ all some sound o fewer w

@@ -9,7 +9,7 @@ use lib.Dec.{eqb}
 use lib.ListN.{length, get_or, drop, length-append, take-append-drop, get_or-append}
 use lib.Seq.{get_or-take, get_or-drop, drop-drop}
 use borrow.Author.Tests.{eqb-false, ne_eqb, le-leb, not-true}
-use Rattle.codec.specs.Refusal.{accept}
+use Rattle.codec.specs.Refusal.{Ok}
 use Rattle.codec.specs.Layout.{Layout, least}
 use Rattle.codec.specs.Technology.{bit}
 use Rattle.codec.specs.Message.{block_at, also, no_id, block_fault, Walked, prepend, walk}
@@ -61,7 +61,7 @@ module _ (layouts : ℕ → Layout) (set : ℕ) (m : List ℕ) where
         fields = rw s.first f.1;
       }
 
-  pub walked : (n : ℕ) (came : ℕ → Bool) (at : ℕ) (w : Walked) → at ≤ length m → walk layouts set m n came at ≡ accept w → Lies n came at w.blocks w.end
+  pub walked : (n : ℕ) (came : ℕ → Bool) (at : ℕ) (w : Walked) → at ≤ length m → walk layouts set m n came at ≡ Ok w → Lies n came at w.blocks w.end
   unfolding walk flatten
   walked zero came at w u e =
       let q : ◌≡◌ {A = Walked} (record { blocks = []; end = at }) w = cc in
@@ -99,7 +99,7 @@ module _ (layouts : ℕ → Layout) (set : ℕ) (m : List ℕ) where
     size = sym (get_or-drop at m 1 0) ∙ ap (λ (l : List ℕ). get_or l 1 0) e ∙ get_or-append b rest 0 1 two ∙ w.size
 
     -- a whole block that did not come before has no fault
-    passes : came (get_or b 0 0) ≡ false → block_fault layouts set m came at ≡ accept tt
+    passes : came (get_or b 0 0) ≡ false → block_fault layouts set m came at ≡ Ok tt
     unfolding block_fault
     passes f =
         let L = layouts (get_or b 0 0) in
@@ -118,7 +118,7 @@ module _ (layouts : ℕ → Layout) (set : ℕ) (m : List ℕ) where
 
   pub walks : (blocks : List (List ℕ)) (came : ℕ → Bool) (at : ℕ) (rest : List ℕ) → at ≤ length m → drop at m ≡ flatten blocks ++ rest
       → Each (Whole layouts set) blocks → Fresh came blocks → Once blocks
-      → walk layouts set m (length blocks) came at ≡ accept (record { blocks = blocks; end = at + length (flatten blocks) })
+      → walk layouts set m (length blocks) came at ≡ Ok (record { blocks = blocks; end = at + length (flatten blocks) })
   unfolding walk flatten
   walks [] came at rest u e w f o = rw (add-zero at)
   walks (b ∷ blocks) came at rest u e w f o =

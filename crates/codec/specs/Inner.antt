@@ -2,4 +2,5 @@
 -- writing, a session's calls and the exports promise does not rest on it, and no statement of the demands does.
 pub mod MetIds
 pub mod Places
+pub mod Listed
 pub mod Puts

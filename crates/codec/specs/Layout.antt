@@ -2,7 +2,7 @@
 use Rattle.std.specs.Prelude.{ℕ, ◌+◌, ◌-◌, ◌^◌, ◌<◌, ◌≡◌, List, [], ◌∷◌, ◌++◌, Bool, true, false, ◌&&◌, ◌||◌, length, get_or, take, drop, replicate, leb, eqb}
 use Prim.Native.String.{String}
 use Rattle.codec.specs.Octets.{Octets, all_zero, part, of_le, to_le}
-use Rattle.codec.specs.Refusal.{Checked, accept, demand, block_too_small, not_allowed}
+use Rattle.codec.specs.Refusal.{Checked, Ok, demand, BlockTooSmall, NotAllowed}
 
 -- which numbers are allowed
 pub data Test : Type 0 where
@@ -124,10 +124,10 @@ least (counted y x t c ∷ L) at = at + 1
 
 -- the fields in order, the first fault deciding; the second size test comes right after a length is found allowed
 abbrev pub fault : Layout → ℕ → List ℕ → Checked (Unit {0})
-fault [] at s = accept tt
-fault (number x w t ∷ L) at s = demand (test t (of_le w at s)) not_allowed (fault L (at + w) s)
-fault (octets x n t ∷ L) at s = demand (spelled t (part at n s)) not_allowed (fault L (at + n) s)
+fault [] at s = Ok tt
+fault (number x w t ∷ L) at s = demand (test t (of_le w at s)) NotAllowed (fault L (at + w) s)
+fault (octets x n t ∷ L) at s = demand (spelled t (part at n s)) NotAllowed (fault L (at + n) s)
 fault (counted y x t c ∷ L) at s =
-    demand (test t (get_or s at 0)) not_allowed
-    (demand (leb (least L (at + 1 + get_or s at 0)) (length s)) block_too_small
+    demand (test t (get_or s at 0)) NotAllowed
+    (demand (leb (least L (at + 1 + get_or s at 0)) (length s)) BlockTooSmall
     (fault L (at + 1 + get_or s at 0) s))

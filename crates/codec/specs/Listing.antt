@@ -1,6 +1,6 @@
 -- The blocks of a message one by one, for diagnosis: place, ID and size.
 use Rattle.std.specs.Prelude.{ℕ, zero, suc, ◌+◌, List, [], ◌∷◌, length, get_or}
-use Rattle.codec.specs.Refusal.{Checked, refuse, accept}
+use Rattle.codec.specs.Refusal.{Checked, Err, Ok}
 use Rattle.codec.specs.Table.{row}
 use Rattle.codec.specs.Message.{id_of, blocks_at, parse}
 use Rattle.codec.specs.declared.records.Block.{Block}
@@ -17,8 +17,8 @@ nth_from (b ∷ blocks) at (suc n) = nth_from blocks (at + length b) n
 
 -- of the blocks that checks accept; none where they refuse
 abbrev pub listed : Checked (List (List ℕ)) → ℕ → ℕ → Block
-listed (refuse x) at n = no_block
-listed (accept blocks) at n = nth_from blocks at n
+listed (Err x) at n = no_block
+listed (Ok blocks) at n = nth_from blocks at n
 
 -- of a message: none if the reader refuses it, or if it carries no blocks
 unfoldable pub nth_block : List ℕ → ℕ → Block

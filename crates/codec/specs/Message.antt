@@ -1,7 +1,7 @@
 -- Messages: the head, the blocks, the end of the message, and the order of checks.
 use Rattle.std.specs.Prelude.{ℕ, zero, suc, ◌+◌, ◌*◌, ◌≡◌, List, [], ◌∷◌, Bool, true, false, ◌&&◌, ◌||◌, not, cond, leb, ltb, eqb, length, get_or}
 use Rattle.codec.specs.Octets.{Octets, part, of_le}
-use Rattle.codec.specs.Refusal.{Checked, accept, demand, and_then, too_long, ends_early, reserved_id, wrong_version, sets_differ, block_too_small, wrong_block, left_over}
+use Rattle.codec.specs.Refusal.{Checked, Ok, demand, and_then, TooLong, EndsEarly, ReservedId, WrongVersion, SetsDiffer, BlockTooSmall, WrongBlock, LeftOver}
 use Rattle.codec.specs.Technology.{technology_id, bit, known, names}
 use Rattle.codec.specs.Layout.{Layout, Values, zeroes, value, least, fault}
 use Rattle.codec.specs.Blocks.{cell}
@@ -64,49 +64,49 @@ module _ (layouts : ℕ → Layout) (set : ℕ) (m : List ℕ) where
   block_fault came at =
       let id = get_or m at 0 in
       let size = get_or m (at + 1) 0 in
-      demand (leb (at + 2) (length m)) ends_early
-      (demand (bit set id && not (came id)) wrong_block
-      (demand (leb (least (layouts id) 2) size) block_too_small
-      (demand (leb (at + size) (length m)) ends_early
+      demand (leb (at + 2) (length m)) EndsEarly
+      (demand (bit set id && not (came id)) WrongBlock
+      (demand (leb (least (layouts id) 2) size) BlockTooSmall
+      (demand (leb (at + size) (length m)) EndsEarly
       (fault (layouts id) 2 (block_at m at)))))
 
   -- n blocks from a place on
   unfoldable pub walk : ℕ → (ℕ → Bool) → ℕ → Checked Walked
-  walk zero came at = accept (record { blocks = []; end = at })
+  walk zero came at = Ok (record { blocks = []; end = at })
   walk (suc n) came at =
       and_then (block_fault came at) λ _.
       and_then (walk n (also (get_or m at 0) came) (place_after m at)) λ w.
-      accept (prepend (block_at m at) w)
+      Ok (prepend (block_at m at) w)
 
 -- End of the message: version 1 allows no octet more. In the versions above it octets after the known part are ignored.
 unfoldable pub end_fault : List ℕ → ℕ → Checked (Unit {0})
-end_fault m end = demand (not (eqb (version_of m) 1 && ltb end (length m))) left_over (accept tt)
+end_fault m end = demand (not (eqb (version_of m) 1 && ltb end (length m))) LeftOver (Ok tt)
 
 -- n blocks from a place on, and after the last the rule for the end of the message
 unfoldable pub blocks_from : (ℕ → Layout) → List ℕ → ℕ → ℕ → Checked (List (List ℕ))
 blocks_from layouts m n at =
     and_then (walk layouts (set_of m) m n no_id at) λ w.
     and_then (end_fault m w.end) λ _.
-    accept w.blocks
+    Ok w.blocks
 
 -- ---- the order of checks: the blocks of a message that none of them refuses
 
 -- what follows the head
 unfoldable pub after_head : Row → List ℕ → Checked (List (List ℕ))
 after_head R m =
-    demand (leb (blocks_at R.times) (length m)) ends_early
-    (demand (sets_agree R.times m) sets_differ
+    demand (leb (blocks_at R.times) (length m)) EndsEarly
+    (demand (sets_agree R.times m) SetsDiffer
     (blocks_from (layouts_of R.column) m (block_count R.column (set_of m)) (blocks_at R.times)))
 
 -- the version, then what follows the head
 unfoldable pub body : List ℕ → Checked (List (List ℕ))
-body m = demand (readable (version_of m) (id_of m)) wrong_version (after_head (row (id_of m)) m)
+body m = demand (readable (version_of m) (id_of m)) WrongVersion (after_head (row (id_of m)) m)
 
 unfoldable pub parse : List ℕ → Checked (List (List ℕ))
 parse m =
-    demand (leb (length m) message_limit) too_long
-    (demand (leb 2 (length m)) ends_early
-    (demand (assigned (id_of m)) reserved_id
+    demand (leb (length m) message_limit) TooLong
+    (demand (leb 2 (length m)) EndsEarly
+    (demand (assigned (id_of m)) ReservedId
     (body m)))
 
 -- ---- the record
@@ -121,7 +121,7 @@ abbrev pub record_of : (id set : ℕ) → List (List ℕ) → Record
 record_of id set blocks = to_record id (known set) (λ k t. cond (names (set_in id set k) t) (fields_in (cell k t) (technology_id t) blocks) (zeroes (cell k t)))
 
 unfoldable pub reading : List ℕ → Checked Record
-reading m = and_then (parse m) λ blocks. accept (record_of (id_of m) (set_of m) blocks)
+reading m = and_then (parse m) λ blocks. Ok (record_of (id_of m) (set_of m) blocks)
 
 -- the contract of `read`: m is octets, as its type ensures, and the answer is that of `reading`
 pub record Reads (m : List ℕ) (a : Reading) : Type 0 where

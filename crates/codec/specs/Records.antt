@@ -4,7 +4,7 @@ use Rattle.codec.specs.Technology.{Technology, uwb, cs, nan, rssi, names}
 use Rattle.codec.specs.Layout.{Values, zeroes}
 use Rattle.codec.specs.Blocks.{uwb_capability, cs_capability, nan_capability, uwb_configuration, cs_configuration, nan_configuration, rssi_block, Column, capabilities, configurations, cell}
 use Rattle.codec.specs.Table.{message_of}
-use Rattle.codec.specs.Refusal.{Checked, refuse, accept, number_of}
+use Rattle.codec.specs.Refusal.{Checked, Err, Ok, number_of}
 use Rattle.codec.specs.declared.uwb.UwbCapability.{UwbCapability}
 use Rattle.codec.specs.declared.uwb.UwbConfiguration.{UwbConfiguration}
 use Rattle.codec.specs.declared.cs.CsCapability.{CsCapability}
@@ -188,5 +188,5 @@ abbrev pub refused : ℕ → Reading
 refused n = record { refusal = n; value = zero_record }
 
 abbrev pub answer : Checked Record → Reading
-answer (refuse x) = refused (number_of x)
-answer (accept r) = accepted r
+answer (Err x) = refused (number_of x)
+answer (Ok r) = accepted r

@@ -1,60 +1,35 @@
 -- Refusals: 01's numbers, and checks in an order of which the first that fails decides.
-use Rattle.std.specs.Prelude.{ℕ, Bool, true, false}
+use Rattle.std.specs.Prelude.{ℕ, Bool, true, false, Result}
+pub use Rattle.std.specs.Prelude.{Ok, Err}
+pub use Rattle.codec.specs.declared.refusal.Refusal.{Refusal}
+pub use Rattle.codec.specs.declared.refusal.Refusal.TheVariants.{TooLong, EndsEarly, ReservedId, WrongVersion, SetsDiffer, BlockTooSmall, WrongBlock, NotAllowed, LeftOver, NotForTag, BufferTooShort, NotValid, BrokenRecord}
 
-pub data Refusal : Type 0 where
-  -- the message has more than 256 octets
-  too_long : Refusal
-  -- it ends before a field or block that its layout needs
-  ends_early : Refusal
-  -- its ID is reserved
-  reserved_id : Refusal
-  -- version 0, or above 1 with an ID other than 0 and 1
-  wrong_version : Refusal
-  -- the two sets of a Configuration differ
-  sets_differ : Refusal
-  -- a block's size is below its need (below 2 for ID 4 to 15)
-  block_too_small : Refusal
-  -- a block's ID has no bit in the set (always so from 16), or came before
-  wrong_block : Refusal
-  -- a field is not allowed
-  not_allowed : Refusal
-  -- octets are left over in version 1
-  left_over : Refusal
-  -- a session is given message 1, 3 or 7
-  not_for_tag : Refusal
-  -- the lent buffer is shorter than what is to be written
-  buffer_too_short : Refusal
-  -- a record to be written, or a profile, is not valid
-  not_valid : Refusal
-  -- a log record breaks its layout
-  broken_record : Refusal
-
+-- src/refusal.rt says of each refusal when it is given
 abbrev pub number_of : Refusal → ℕ
-number_of too_long = 1
-number_of ends_early = 2
-number_of reserved_id = 3
-number_of wrong_version = 4
-number_of sets_differ = 5
-number_of block_too_small = 6
-number_of wrong_block = 7
-number_of not_allowed = 8
-number_of left_over = 9
-number_of not_for_tag = 10
-number_of buffer_too_short = 11
-number_of not_valid = 12
-number_of broken_record = 13
+number_of TooLong = 1
+number_of EndsEarly = 2
+number_of ReservedId = 3
+number_of WrongVersion = 4
+number_of SetsDiffer = 5
+number_of BlockTooSmall = 6
+number_of WrongBlock = 7
+number_of NotAllowed = 8
+number_of LeftOver = 9
+number_of NotForTag = 10
+number_of BufferTooShort = 11
+number_of NotValid = 12
+number_of BrokenRecord = 13
 
 -- what checks give: a refusal, or what was read
-pub data Checked (A : Type 0) : Type 0 where
-  refuse : Refusal → Checked A
-  accept : A → Checked A
+abbrev pub Checked : Type 0 → Type 0
+Checked A = Result A Refusal
 
 -- a condition that has to hold before the rest is looked at
 abbrev pub demand : {A : Type 0} → Bool → Refusal → Checked A → Checked A
 demand true x rest = rest
-demand false x rest = refuse x
+demand false x rest = Err x
 
 -- one check after another
 abbrev pub and_then : {A B : Type 0} → Checked A → (A → Checked B) → Checked B
-and_then (refuse x) rest = refuse x
-and_then (accept a) rest = rest a
+and_then (Err x) rest = Err x
+and_then (Ok a) rest = rest a

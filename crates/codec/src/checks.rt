@@ -1,31 +1,31 @@
-// The order of checks: the number of a message's first fault, and the places of its blocks where there is none.
+// The order of checks: a message's first fault, and the places of its blocks where there is none.
 ghost use Rattle.std.specs.Prelude.{◌≡◌, true, ◌≤◌, length};
 ghost use Rattle.codec.specs.Table.{message_limit, readable, row};
 ghost use Rattle.codec.specs.Message.{id_of, end_fault, body, parse, blocks_at};
-ghost use Rattle.codec.specs.Inner.Places.{number_in, head_fault, set_alone, carries_blocks, Judged};
+ghost use Rattle.codec.specs.Inner.Places.{head_fault, verdict, set_alone, carries_blocks, Judged};
 
 use crate::message::{CAPABILITY_RESPONSE, CONFIGURATION, assigned};
 use crate::octets::u16_at;
-use crate::refusal::{ENDS_EARLY, LEFT_OVER, RESERVED_ID, SETS_DIFFER, TOO_LONG, WRONG_VERSION};
+use crate::refusal::Refusal;
 use crate::walk::{walk_capabilities, walk_configurations};
 
 // A message has at most so many octets.
 pub const MESSAGE_LIMIT: usize = 256;
 
-// The first fault in the head of a message, before its version, 0 for none.
-pub(crate) fn head_fault(m: &[u8]) -> u8
-    ensures { result ≡ number_in (head_fault m.now) }
+// The first fault in the head of a message, before its version.
+pub(crate) fn head_fault(m: &[u8]) -> Result<(), Refusal>
+    ensures { result ≡ head_fault m.now }
 {
     if MESSAGE_LIMIT < m.len() {
-        return TOO_LONG;
+        return Err(Refusal::TooLong);
     }
     if m.len() < 2 {
-        return ENDS_EARLY;
+        return Err(Refusal::EndsEarly);
     }
     if !assigned(m[1]) {
-        return RESERVED_ID;
+        return Err(Refusal::ReservedId);
     }
-    0
+    Ok(())
 }
 
 // Whether a version of a message is read.
@@ -41,85 +41,76 @@ fn readable(version: u8, id: u8) -> bool
 
 // The rule for the end of the message, from the place after its known part.
 #[tactic(auto, unfolding(crate::specs::Message::end_fault))]
-fn end_fault(m: &[u8], end: usize) -> u8
+fn end_fault(m: &[u8], end: usize) -> Result<(), Refusal>
     requires { 4 ≤ length m.now }
-    ensures { result ≡ number_in (end_fault m.now end) }
+    ensures { result ≡ end_fault m.now end }
 {
     if m.len() <= end {
-        return 0;
+        return Ok(());
     }
     if m[0] == 1 {
-        return LEFT_OVER;
+        return Err(Refusal::LeftOver);
     }
-    0
+    Ok(())
 }
 
-// The first fault from the version on of a message that carries a set alone, 0 for none.
-pub(crate) fn set_fault(m: &[u8]) -> u8
+// The first fault from the version on of a message that carries a set alone.
+pub(crate) fn set_fault(m: &[u8]) -> Result<(), Refusal>
     requires { (2 ≤ length m.now) × (row (id_of m.now) ≡ set_alone) }
-    ensures { result ≡ number_in (body m.now) }
+    ensures { result ≡ verdict (body m.now) }
 {
     if !readable(m[0], m[1]) {
-        return WRONG_VERSION;
+        return Err(Refusal::WrongVersion);
     }
     if m.len() < 4 {
-        return ENDS_EARLY;
+        return Err(Refusal::EndsEarly);
     }
     end_fault(m, 4)
 }
 
 // The first fault from the version on of a Capability Response.
-pub(crate) fn response_fault(m: &[u8], found: &mut [u16; 5]) -> u8
+pub(crate) fn response_fault(m: &[u8], found: &mut [u16; 5]) -> Result<(), Refusal>
     requires { (2 ≤ length m.now) × (length m.now ≤ message_limit) × (id_of m.now ≡ 1) × (length found.old ≡ 5) }
     ensures { Judged true (body m.now) 4 found.old result found.new }
 {
     if !readable(m[0], m[1]) {
-        return WRONG_VERSION;
+        return Err(Refusal::WrongVersion);
     }
     if m.len() < 4 {
-        return ENDS_EARLY;
+        return Err(Refusal::EndsEarly);
     }
     let set = u16_at(m, 2);
     let view = m;
-    let fault = walk_capabilities(&view, 4, set, 0, found);
-    if fault != 0 {
-        return fault;
-    }
+    walk_capabilities(&view, 4, set, 0, found)?;
     end_fault(m, usize::from(found[4]))
 }
 
 // The first fault from the version on of a Configuration.
-pub(crate) fn configuration_fault(m: &[u8], found: &mut [u16; 5]) -> u8
+pub(crate) fn configuration_fault(m: &[u8], found: &mut [u16; 5]) -> Result<(), Refusal>
     requires { (2 ≤ length m.now) × (length m.now ≤ message_limit) × (id_of m.now ≡ 2) × (length found.old ≡ 5) }
     ensures { Judged true (body m.now) 6 found.old result found.new }
 {
     if !readable(m[0], m[1]) {
-        return WRONG_VERSION;
+        return Err(Refusal::WrongVersion);
     }
     if m.len() < 6 {
-        return ENDS_EARLY;
+        return Err(Refusal::EndsEarly);
     }
     let set = u16_at(m, 2);
     if set != u16_at(m, 4) {
-        return SETS_DIFFER;
+        return Err(Refusal::SetsDiffer);
     }
     let view = m;
-    let fault = walk_configurations(&view, 6, set, 0, found);
-    if fault != 0 {
-        return fault;
-    }
+    walk_configurations(&view, 6, set, 0, found)?;
     end_fault(m, usize::from(found[4]))
 }
 
-// The first fault of a message; for none it is 0, and `found` has the places of the blocks of message 1 or 2.
-pub(crate) fn message_fault(m: &[u8], found: &mut [u16; 5]) -> u8
+// The first fault of a message; for none, `found` has the places of the blocks of message 1 or 2.
+pub(crate) fn message_fault(m: &[u8], found: &mut [u16; 5]) -> Result<(), Refusal>
     requires { length found.old ≡ 5 }
     ensures { Judged (carries_blocks (row (id_of m.now)).column) (parse m.now) (blocks_at (row (id_of m.now)).times) found.old result found.new }
 {
-    let fault = head_fault(m);
-    if fault != 0 {
-        return fault;
-    }
+    head_fault(m)?;
     match m[1] {
         CAPABILITY_RESPONSE => response_fault(m, found),
         CONFIGURATION => configuration_fault(m, found),

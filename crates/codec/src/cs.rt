@@ -3,11 +3,11 @@ ghost use Rattle.std.specs.Prelude.{◌≡◌, ◌+◌, ◌≤◌, length};
 ghost use Rattle.codec.specs.Layout.{fault};
 ghost use Rattle.codec.specs.Blocks.{cs_capability, cs_configuration};
 ghost use Rattle.codec.specs.Records.{to_cs_capability, to_cs_configuration, of_cs_capability, of_cs_configuration};
-ghost use Rattle.codec.specs.Inner.Places.{number_in, layout_fault};
+ghost use Rattle.codec.specs.Inner.Places.{layout_fault};
 
 use crate::fields::Fields;
 use crate::octets::{all_zero, inside, octets_at, put, put_octets};
-use crate::refusal::NOT_ALLOWED;
+use crate::refusal::Refusal;
 use crate::sizes::{block_octets, size_fault};
 
 #[repr(C)]
@@ -25,33 +25,30 @@ pub struct CsConfiguration {
 }
 
 // The first fault of the block at a place of a message: its size.
-pub(crate) fn capability_fault(m: &[u8], at: usize) -> u8
+pub(crate) fn capability_fault(m: &[u8], at: usize) -> Result<(), Refusal>
     requires { at + 2 ≤ length m.now }
-    ensures { result ≡ number_in (layout_fault cs_capability m.now at) }
+    ensures { result ≡ layout_fault cs_capability m.now at }
 {
     size_fault(m, at, 9)
 }
 
-// The first fault in the fields of the configuration, 0 for none.
-fn configuration_fields_fault(b: &[u8]) -> u8
+// The first fault in the fields of the configuration.
+fn configuration_fields_fault(b: &[u8]) -> Result<(), Refusal>
     requires { 9 ≤ length b.now }
-    ensures { result ≡ number_in (fault cs_configuration 2 b.now) }
+    ensures { result ≡ fault cs_configuration 2 b.now }
 {
     if !inside(0, 4, b[2]) {
-        return NOT_ALLOWED;
+        return Err(Refusal::NotAllowed);
     }
-    0
+    Ok(())
 }
 
 // The first fault of the block at a place of a message: its size, and then its fields.
-pub(crate) fn configuration_fault(m: &[u8], at: usize) -> u8
+pub(crate) fn configuration_fault(m: &[u8], at: usize) -> Result<(), Refusal>
     requires { at + 2 ≤ length m.now }
-    ensures { result ≡ number_in (layout_fault cs_configuration m.now at) }
+    ensures { result ≡ layout_fault cs_configuration m.now at }
 {
-    let fault = size_fault(m, at, 9);
-    if fault != 0 {
-        return fault;
-    }
+    size_fault(m, at, 9)?;
     configuration_fields_fault(block_octets(m, at))
 }
 

@@ -34,8 +34,7 @@ pub use octets::all_zero;
 pub use places::fields_at;
 pub use reader::{configuration_read, find, read, response_read, set_read};
 pub use records::{
-    Block, Capability, Configuration, Found, Heard, Reading, Record, SetMessage, Written, refused,
-    unheard,
+    Block, Capability, Configuration, Heard, Reading, Record, SetMessage, Written, refused,
 };
 pub use rssi::Rssi;
 pub use technology::{both_have, common, has, has_bit, set_if, set_naming};

@@ -3,11 +3,11 @@ ghost use Rattle.std.specs.Prelude.{◌≡◌, ◌+◌, ◌≤◌, length};
 ghost use Rattle.codec.specs.Layout.{fault};
 ghost use Rattle.codec.specs.Blocks.{nan_capability, nan_configuration};
 ghost use Rattle.codec.specs.Records.{to_nan_capability, to_nan_configuration, of_nan_capability, of_nan_configuration};
-ghost use Rattle.codec.specs.Inner.Places.{number_in, layout_fault};
+ghost use Rattle.codec.specs.Inner.Places.{layout_fault};
 
 use crate::fields::Fields;
 use crate::octets::{all_zero, inside, padded_at, put, put_first, zero_from};
-use crate::refusal::{BLOCK_TOO_SMALL, NOT_ALLOWED};
+use crate::refusal::Refusal;
 use crate::sizes::{block_octets, size_fault};
 
 #[repr(C)]
@@ -28,60 +28,54 @@ pub struct NanConfiguration {
     pub periodic: u8,
 }
 
-// The first fault in the fields of the capability, 0 for none.
-fn capability_fields_fault(b: &[u8]) -> u8
+// The first fault in the fields of the capability.
+fn capability_fields_fault(b: &[u8]) -> Result<(), Refusal>
     requires { 6 ≤ length b.now }
-    ensures { result ≡ number_in (fault nan_capability 2 b.now) }
+    ensures { result ≡ fault nan_capability 2 b.now }
 {
     if !inside(0, 1, b[3]) {
-        return NOT_ALLOWED;
+        return Err(Refusal::NotAllowed);
     }
-    0
+    Ok(())
 }
 
 // The first fault of the block at a place of a message: its size, and then its fields.
-pub(crate) fn capability_fault(m: &[u8], at: usize) -> u8
+pub(crate) fn capability_fault(m: &[u8], at: usize) -> Result<(), Refusal>
     requires { at + 2 ≤ length m.now }
-    ensures { result ≡ number_in (layout_fault nan_capability m.now at) }
+    ensures { result ≡ layout_fault nan_capability m.now at }
 {
-    let fault = size_fault(m, at, 6);
-    if fault != 0 {
-        return fault;
-    }
+    size_fault(m, at, 6)?;
     capability_fields_fault(block_octets(m, at))
 }
 
-// The first fault in the fields of the configuration, 0 for none.
-fn configuration_fields_fault(b: &[u8]) -> u8
+// The first fault in the fields of the configuration.
+fn configuration_fields_fault(b: &[u8]) -> Result<(), Refusal>
     requires { 3 ≤ length b.now }
-    ensures { result ≡ number_in (fault nan_configuration 2 b.now) }
+    ensures { result ≡ fault nan_configuration 2 b.now }
 {
     if !inside(1, 64, b[2]) {
-        return NOT_ALLOWED;
+        return Err(Refusal::NotAllowed);
     }
     let role = 3 + b[2] as usize;
     let periodic = role + 1;
     if b.len() < periodic + 1 {
-        return BLOCK_TOO_SMALL;
+        return Err(Refusal::BlockTooSmall);
     }
     if !inside(0, 1, b[role]) {
-        return NOT_ALLOWED;
+        return Err(Refusal::NotAllowed);
     }
     if !inside(0, 1, b[periodic]) {
-        return NOT_ALLOWED;
+        return Err(Refusal::NotAllowed);
     }
-    0
+    Ok(())
 }
 
 // The first fault of the block at a place of a message: its size, and then its fields.
-pub(crate) fn configuration_fault(m: &[u8], at: usize) -> u8
+pub(crate) fn configuration_fault(m: &[u8], at: usize) -> Result<(), Refusal>
     requires { at + 2 ≤ length m.now }
-    ensures { result ≡ number_in (layout_fault nan_configuration m.now at) }
+    ensures { result ≡ layout_fault nan_configuration m.now at }
 {
-    let fault = size_fault(m, at, 3);
-    if fault != 0 {
-        return fault;
-    }
+    size_fault(m, at, 3)?;
     configuration_fields_fault(block_octets(m, at))
 }
 

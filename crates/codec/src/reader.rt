@@ -1,25 +1,26 @@
 // The reader: the record of a message that the order of checks does not refuse is made once, from the places of its blocks.
 ghost use Rattle.std.specs.Prelude.{◌≡◌};
 ghost use Rattle.codec.specs.Blocks.{capabilities, configurations};
-ghost use Rattle.codec.specs.Message.{Reads};
-ghost use Rattle.codec.specs.Records.{accepted, response, settings_record, without_blocks};
-ghost use Rattle.codec.specs.Inner.Places.{column_at, Located};
+ghost use Rattle.codec.specs.Message.{reading, Reads};
+ghost use Rattle.codec.specs.Records.{answer, accepted, response, settings_record, without_blocks};
+ghost use Rattle.codec.specs.Inner.Places.{column_at, Located, Placed};
 
 use crate::checks::message_fault;
 use crate::columns::Column;
 use crate::message::{CAPABILITY_RESPONSE, CONFIGURATION};
 use crate::octets::u16_at;
 use crate::places::NO_PLACE;
-use crate::records::{Capability, Configuration, Found, Reading, Record, refused};
+use crate::records::{Capability, Configuration, Reading, Record, refused};
+use crate::refusal::Refusal;
 use crate::technology::SET_LIMIT;
 
-// Finds the blocks of a message.
-pub fn find(message: &[u8]) -> Found
-    ensures { Located message.now result.fault result.places }
+// Finds the blocks of a message: the places at which reading gives its record.
+pub fn find(message: &[u8]) -> Result<[u16; 5], Refusal>
+    ensures { Located message.now result }
 {
     let mut places = [NO_PLACE; 5];
-    let fault = message_fault(message, &mut places);
-    Found { fault, places }
+    message_fault(message, &mut places)?;
+    Ok(places)
 }
 
 // An accepted Capability Response with the blocks at these places.
@@ -73,21 +74,28 @@ pub fn set_read(id: u8, set: u16) -> Reading
     }
 }
 
+// The record of a message whose blocks were found at these places.
+fn read_at(message: &[u8], places: &[u16; 5]) -> Reading
+    requires { Placed message.now places.now }
+    ensures { result ≡ answer (reading message.now) }
+{
+    let id = message[1];
+    let set = u16_at(message, 2) % SET_LIMIT;
+    if id == CAPABILITY_RESPONSE {
+        return response_read(set, message, places);
+    }
+    if id == CONFIGURATION {
+        return configuration_read(set, message, places);
+    }
+    set_read(id, set)
+}
+
 // Reads a message: its record, or the number of the refusal that the order of checks names.
 pub fn read(message: &[u8]) -> Reading
     ensures { Reads message.now result }
 {
-    let found = find(message);
-    if found.fault != 0 {
-        return refused(found.fault);
+    match find(message) {
+        Err(refusal) => refused(refusal),
+        Ok(places) => read_at(message, &places),
     }
-    let id = message[1];
-    let set = u16_at(message, 2) % SET_LIMIT;
-    if id == CAPABILITY_RESPONSE {
-        return response_read(set, message, &found.places);
-    }
-    if id == CONFIGURATION {
-        return configuration_read(set, message, &found.places);
-    }
-    set_read(id, set)
 }

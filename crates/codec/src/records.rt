@@ -1,6 +1,7 @@
 // Records: what a message says, and the reader's answer.
 ghost use Rattle.std.specs.Prelude.{◌≡◌};
 ghost use Rattle.codec.specs.Blocks.{capabilities, configurations};
+ghost use Rattle.codec.specs.Refusal.{number_of};
 ghost use Rattle.codec.specs.Records.{message_id, refused};
 
 use crate::columns::Column;
@@ -9,6 +10,7 @@ use crate::fields::Fields;
 use crate::message::{CAPABILITY_REQUEST, CONFIGURATION_RESPONSE, STOP, STOP_RESPONSE};
 use crate::nan::{NanCapability, NanConfiguration};
 use crate::places::fields_at;
+use crate::refusal::Refusal;
 use crate::rssi::Rssi;
 use crate::uwb::{UwbCapability, UwbConfiguration};
 
@@ -59,25 +61,15 @@ pub struct Reading {
     pub value: Record,
 }
 
-// What a tag hears: the reader's refusal, ID and set, and where the settings of a Configuration stand in the message; 0 for other
-// messages.
-#[repr(C)]
+// What a tag hears of a message: its ID and set, and where the settings of a Configuration stand in it; 0 for other messages.
 #[derive(Clone, Copy)]
 pub struct Heard {
-    pub refusal: u8,
     pub id: u8,
     pub set: u16,
     pub uwb: u32,
     pub cs: u32,
     pub nan: u32,
     pub rssi: u32,
-}
-
-// The number of a message's first fault, or 0 and places at which reading gives its record.
-#[derive(Clone, Copy)]
-pub struct Found {
-    pub fault: u8,
-    pub places: [u16; 5],
 }
 
 // A block of a message: its place, its ID and its size. All zero for none.
@@ -201,33 +193,18 @@ impl Column for Configuration {
 }
 
 // A refusal, as `read` gives it.
-pub fn refused(number: u8) -> Reading
-    ensures { result ≡ refused number }
+pub fn refused(refusal: Refusal) -> Reading
+    ensures { result ≡ refused (number_of refusal) }
 {
     let capability = Capability::zero();
     let configuration = Configuration::zero();
     Reading {
-        refusal: number,
+        refusal: u8::from(refusal),
         value: Record {
             id: 0,
             set: 0,
             capability,
             configuration,
         },
-    }
-}
-
-// A refusal, as `hear` gives it.
-pub fn unheard(refusal: u8) -> Heard
-    ensures { result ≡ record { refusal = refusal; id = 0; set = 0; uwb = 0; cs = 0; nan = 0; rssi = 0 } }
-{
-    Heard {
-        refusal,
-        id: 0,
-        set: 0,
-        uwb: 0,
-        cs: 0,
-        nan: 0,
-        rssi: 0,
     }
 }

@@ -2,10 +2,11 @@
 ghost use Rattle.std.specs.Prelude.{◌≡◌, ◌+◌, ◌≤◌, length};
 ghost use Rattle.codec.specs.Blocks.{rssi_block};
 ghost use Rattle.codec.specs.Records.{to_rssi, of_rssi};
-ghost use Rattle.codec.specs.Inner.Places.{number_in, layout_fault};
+ghost use Rattle.codec.specs.Inner.Places.{layout_fault};
 
 use crate::fields::Fields;
 use crate::octets::{all_zero, octets_at, put_octets};
+use crate::refusal::Refusal;
 use crate::sizes::size_fault;
 
 #[repr(C)]
@@ -15,9 +16,9 @@ pub struct Rssi {
 }
 
 // The first fault of the block at a place of a message: its size.
-pub(crate) fn block_fault(m: &[u8], at: usize) -> u8
+pub(crate) fn block_fault(m: &[u8], at: usize) -> Result<(), Refusal>
     requires { at + 2 ≤ length m.now }
-    ensures { result ≡ number_in (layout_fault rssi_block m.now at) }
+    ensures { result ≡ layout_fault rssi_block m.now at }
 {
     size_fault(m, at, 8)
 }

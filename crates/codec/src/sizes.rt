@@ -1,23 +1,23 @@
 // A block by its size, the second octet of its head.
 ghost use Rattle.std.specs.Prelude.{◌≡◌, ◌+◌, ◌≤◌, length, get_or};
 ghost use Rattle.codec.specs.Message.{block_at};
-ghost use Rattle.codec.specs.Inner.Places.{number_in, size_fault};
+ghost use Rattle.codec.specs.Inner.Places.{size_fault};
 
-use crate::refusal::{BLOCK_TOO_SMALL, ENDS_EARLY};
+use crate::refusal::Refusal;
 
-// The first fault in the size of the block at a place, 0 for none.
-pub(crate) fn size_fault(m: &[u8], at: usize, least: u8) -> u8
+// The first fault in the size of the block at a place.
+pub(crate) fn size_fault(m: &[u8], at: usize, least: u8) -> Result<(), Refusal>
     requires { at + 2 ≤ length m.now }
-    ensures { result ≡ number_in (size_fault least m.now at) }
+    ensures { result ≡ size_fault least m.now at }
 {
     let size = m[at + 1];
     if (least <= size) & (size as usize <= m.len() - at) {
-        return 0;
+        return Ok(());
     }
     if size < least {
-        return BLOCK_TOO_SMALL;
+        return Err(Refusal::BlockTooSmall);
     }
-    ENDS_EARLY
+    Err(Refusal::EndsEarly)
 }
 
 // The octets of the block at a place, which the message has.

@@ -5,14 +5,14 @@ ghost use Rattle.codec.specs.Layout.{country, two_letters, spelled, inside, test
 ghost use Rattle.codec.specs.Blocks.{interval, allowed_key_length, uwb_capability, uwb_configuration, uwb_after_key};
 ghost use Rattle.codec.specs.Records.{to_uwb_capability, to_uwb_configuration, of_uwb_capability, of_uwb_configuration};
 ghost use Rattle.codec.specs.Inner.Puts.{Put, set_octets, before_key, after_key};
-ghost use Rattle.codec.specs.Inner.Places.{number_in, layout_fault};
+ghost use Rattle.codec.specs.Inner.Places.{layout_fault};
 
 use crate::fields::Fields;
 use crate::octets::{
     all_zero, inside, octets_at, padded_at, put, put_first, put_octets, put_u16, put_u32, u16_at,
     u32_at, zero_from,
 };
-use crate::refusal::{BLOCK_TOO_SMALL, NOT_ALLOWED};
+use crate::refusal::Refusal;
 use crate::sizes::{block_octets, size_fault};
 
 #[repr(C)]
@@ -101,81 +101,75 @@ fn allowed_country(pair: [u8; 2]) -> bool
     two_letters(pair) | ((pair[0] == b'0') & (pair[1] == b'0'))
 }
 
-// The first fault in the fields of the capability, 0 for none.
-fn capability_fields_fault(b: &[u8]) -> u8
+// The first fault in the fields of the capability.
+fn capability_fields_fault(b: &[u8]) -> Result<(), Refusal>
     requires { 20 ≤ length b.now }
-    ensures { result ≡ number_in (fault uwb_capability 2 b.now) }
+    ensures { result ≡ fault uwb_capability 2 b.now }
 {
     if !allowed_interval(u16_at(b, 16)) {
-        return NOT_ALLOWED;
+        return Err(Refusal::NotAllowed);
     }
     if !inside(1, 2, b[18]) {
-        return NOT_ALLOWED;
+        return Err(Refusal::NotAllowed);
     }
-    0
+    Ok(())
 }
 
 // The first fault of the block at a place of a message: its size, and then its fields.
-pub(crate) fn capability_fault(m: &[u8], at: usize) -> u8
+pub(crate) fn capability_fault(m: &[u8], at: usize) -> Result<(), Refusal>
     requires { at + 2 ≤ length m.now }
-    ensures { result ≡ number_in (layout_fault uwb_capability m.now at) }
+    ensures { result ≡ layout_fault uwb_capability m.now at }
 {
-    let fault = size_fault(m, at, 20);
-    if fault != 0 {
-        return fault;
-    }
+    size_fault(m, at, 20)?;
     capability_fields_fault(block_octets(m, at))
 }
 
 // The fields after the key, from the country on.
-fn after_key_fault(b: &[u8], at: usize) -> u8
+fn after_key_fault(b: &[u8], at: usize) -> Result<(), Refusal>
     requires { at + 4 ≤ length b.now }
-    ensures { result ≡ number_in (fault uwb_after_key at b.now) }
+    ensures { result ≡ fault uwb_after_key at b.now }
 {
     let role = at + 2;
     let mode = role + 1;
     if !allowed_country(octets_at(b, at)) {
-        return NOT_ALLOWED;
+        return Err(Refusal::NotAllowed);
     }
     if !inside(1, 2, b[role]) {
-        return NOT_ALLOWED;
+        return Err(Refusal::NotAllowed);
     }
     if !inside(1, 2, b[mode]) {
-        return NOT_ALLOWED;
+        return Err(Refusal::NotAllowed);
     }
-    0
+    Ok(())
 }
 
-// The first fault in the fields of the configuration, 0 for none.
-fn configuration_fields_fault(b: &[u8]) -> u8
+// The first fault in the fields of the configuration.
+fn configuration_fields_fault(b: &[u8]) -> Result<(), Refusal>
     requires { 15 ≤ length b.now }
-    ensures { result ≡ number_in (fault uwb_configuration 2 b.now) }
+    ensures { result ≡ fault uwb_configuration 2 b.now }
 {
     if !allowed_interval(u16_at(b, 11)) {
-        return NOT_ALLOWED;
+        return Err(Refusal::NotAllowed);
     }
     if !inside(1, 2, b[13]) {
-        return NOT_ALLOWED;
+        return Err(Refusal::NotAllowed);
     }
     if !allowed_key_length(b[14]) {
-        return NOT_ALLOWED;
+        return Err(Refusal::NotAllowed);
     }
     let country = 15 + b[14] as usize;
     if b.len() < country + 4 {
-        return BLOCK_TOO_SMALL;
+        return Err(Refusal::BlockTooSmall);
     }
     after_key_fault(b, country)
 }
 
 // The first fault of the block at a place of a message: its size, and then its fields.
-pub(crate) fn configuration_fault(m: &[u8], at: usize) -> u8
+pub(crate) fn configuration_fault(m: &[u8], at: usize) -> Result<(), Refusal>
     requires { at + 2 ≤ length m.now }
-    ensures { result ≡ number_in (layout_fault uwb_configuration m.now at) }
+    ensures { result ≡ layout_fault uwb_configuration m.now at }
 {
-    let fault = size_fault(m, at, 15);
-    if fault != 0 {
-        return fault;
-    }
+    size_fault(m, at, 15)?;
     configuration_fields_fault(block_octets(m, at))
 }
 

@@ -4,26 +4,26 @@ ghost use Rattle.codec.specs.Blocks.{capabilities, configurations};
 ghost use Rattle.codec.specs.Table.{message_limit};
 ghost use Rattle.codec.specs.Message.{set_of, place_after};
 ghost use Rattle.codec.specs.Inner.MetIds.{Met};
-ghost use Rattle.codec.specs.Inner.Places.{number_in, id_fault, note, FindsLeft};
+ghost use Rattle.codec.specs.Inner.Places.{id_fault, note, FindsLeft};
 
 use crate::blocks::{capability_fault, configuration_fault};
-use crate::refusal::{ENDS_EARLY, WRONG_BLOCK};
+use crate::refusal::Refusal;
 use crate::technology::{RESERVED, also_met, has_bit, unmet};
 use crate::walker::next_place;
 
-// The first fault in the head of the block at a place, 0 for none.
-fn id_fault(m: &[u8], at: usize, set: u16, met: u16) -> u8
+// The first fault in the head of the block at a place.
+fn id_fault(m: &[u8], at: usize, set: u16, met: u16) -> Result<(), Refusal>
     requires { at ≤ length m.now }
-    ensures { result ≡ number_in (id_fault set met m.now at) }
+    ensures { result ≡ id_fault set met m.now at }
 {
     if m.len() - at < 2 {
-        return ENDS_EARLY;
+        return Err(Refusal::EndsEarly);
     }
     // no bit in the set, or met before
     if !has_bit(unmet(set, met), m[at]) {
-        return WRONG_BLOCK;
+        return Err(Refusal::WrongBlock);
     }
-    0
+    Ok(())
 }
 
 // Keeps the place of the block, if its technology is known, and gives the place after it.
@@ -41,7 +41,7 @@ fn pass(m: &[u8], at: usize, found: &mut [u16; 5]) -> usize
     next
 }
 
-// The first fault of the blocks of message 1 that are left, from a place on. For none it is 0, and `found` has the places of the known
+// The first fault of the blocks of message 1 that are left, from a place on. For none, `found` has the places of the known
 // technologies' blocks and the place after the last block. Of the IDs it keeps one number, `met`, with a bit for each ID met; as many
 // blocks are left as the set has other bits. The message is behind a second reference, so that the compiler makes a loop of the
 // recursion.
@@ -51,23 +51,17 @@ pub(crate) fn walk_capabilities(
     set: u16,
     met: u16,
     found: &mut [u16; 5],
-) -> u8
+) -> Result<(), Refusal>
     requires { (length m.now.now ≤ message_limit) × (at ≤ length m.now.now) × (length found.old ≡ 5) × (set ≡ set_of m.now.now) × Met capabilities m.now.now at met }
     ensures { FindsLeft capabilities m.now.now at met found.old result found.new }
 {
     let left = u32::count_ones(unmet(set, met));
     if left == 0 {
         found[4] = at as u16;
-        return 0;
+        return Ok(());
     }
-    let head = id_fault(*m, at, set, met);
-    if head != 0 {
-        return head;
-    }
-    let fault = capability_fault(*m, at);
-    if fault != 0 {
-        return fault;
-    }
+    id_fault(*m, at, set, met)?;
+    capability_fault(*m, at)?;
     let more = also_met(met, m[at]);
     let next = pass(*m, at, found);
     walk_capabilities(m, next, set, more, found)
@@ -80,23 +74,17 @@ pub(crate) fn walk_configurations(
     set: u16,
     met: u16,
     found: &mut [u16; 5],
-) -> u8
+) -> Result<(), Refusal>
     requires { (length m.now.now ≤ message_limit) × (at ≤ length m.now.now) × (length found.old ≡ 5) × (set ≡ set_of m.now.now) × Met configurations m.now.now at met }
     ensures { FindsLeft configurations m.now.now at met found.old result found.new }
 {
     let left = u32::count_ones(unmet(set, met));
     if left == 0 {
         found[4] = at as u16;
-        return 0;
+        return Ok(());
     }
-    let head = id_fault(*m, at, set, met);
-    if head != 0 {
-        return head;
-    }
-    let fault = configuration_fault(*m, at);
-    if fault != 0 {
-        return fault;
-    }
+    id_fault(*m, at, set, met)?;
+    configuration_fault(*m, at)?;
     let more = also_met(met, m[at]);
     let next = pass(*m, at, found);
     walk_configurations(m, next, set, more, found)

@@ -1,6 +1,7 @@
 // The writer: the normal form of a valid record, into the first octets of a lent buffer.
 ghost use Rattle.std.specs.Prelude.{◌≡◌, true, cond, ◌+◌, ◌≤◌, ◌<◌, length};
 ghost use Rattle.codec.specs.Layout.{write};
+ghost use Rattle.codec.specs.Refusal.{number_of};
 ghost use Rattle.codec.specs.Table.{assigned, row};
 ghost use Rattle.codec.specs.Inner.Places.{set_alone};
 ghost use Rattle.codec.specs.Records.{response, only, settings_record, without_blocks, set_record};
@@ -12,7 +13,7 @@ use crate::fields::Fields;
 use crate::message::{CAPABILITY_RESPONSE, CONFIGURATION, assigned};
 use crate::octets::{put, put_u16};
 use crate::records::{Capability, Configuration, Record, SetMessage, Written, message_id};
-use crate::refusal::{BUFFER_TOO_SHORT, NOT_VALID};
+use crate::refusal::Refusal;
 use crate::technology::{CS, NAN, RSSI, SET_LIMIT, UWB, has};
 use crate::validity::{is_zero, rest_zero, valid_column, valid_only};
 
@@ -73,11 +74,11 @@ fn put_head(id: u8, set: u16, out: &mut [u8]) -> usize
     put_u16(out, first, set)
 }
 
-fn refused(number: u8) -> Written
-    ensures { result ≡ record { refusal = number; length = 0 } }
+fn refused(refusal: Refusal) -> Written
+    ensures { result ≡ record { refusal = number_of refusal; length = 0 } }
 {
     Written {
-        refusal: number,
+        refusal: u8::from(refusal),
         length: 0,
     }
 }
@@ -93,11 +94,11 @@ fn write_response(set: u16, c: &Capability, out: &mut [u8]) -> Written
     ensures { Writes (response set (only set c.now)) out.old result out.new }
 {
     if !valid_only(set, c) {
-        return refused(NOT_VALID);
+        return refused(Refusal::NotValid);
     }
     let length = 4 + size_blocks(set, c);
     if out.len() < length {
-        return refused(BUFFER_TOO_SHORT);
+        return refused(Refusal::BufferTooShort);
     }
     let blocks = put_head(CAPABILITY_RESPONSE, set, out);
     put_blocks(set, c, out, blocks);
@@ -109,11 +110,11 @@ fn write_configuration(set: u16, c: &Configuration, out: &mut [u8]) -> Written
     ensures { Writes (settings_record set c.now) out.old result out.new }
 {
     if !((set < SET_LIMIT) & valid_column(set, c)) {
-        return refused(NOT_VALID);
+        return refused(Refusal::NotValid);
     }
     let length = 6 + size_blocks(set, c);
     if out.len() < length {
-        return refused(BUFFER_TOO_SHORT);
+        return refused(Refusal::BufferTooShort);
     }
     let again = put_head(CONFIGURATION, set, out);
     let blocks = put_u16(out, again, set);
@@ -127,10 +128,10 @@ fn write_without_blocks(id: u8, set: u16, out: &mut [u8]) -> Written
     ensures { Writes (without_blocks id set) out.old result out.new }
 {
     if set >= SET_LIMIT {
-        return refused(NOT_VALID);
+        return refused(Refusal::NotValid);
     }
     if out.len() < 4 {
-        return refused(BUFFER_TOO_SHORT);
+        return refused(Refusal::BufferTooShort);
     }
     put_head(id, set, out);
     Written {
@@ -154,18 +155,18 @@ pub fn write(value: Record, out: &mut [u8]) -> Written
     if value.id == CAPABILITY_RESPONSE {
         let rest = rest_zero(value.set, &value.capability);
         if !(rest & is_zero(&value.configuration)) {
-            return refused(NOT_VALID);
+            return refused(Refusal::NotValid);
         }
         return write_response(value.set, &value.capability, out);
     }
     if !is_zero(&value.capability) {
-        return refused(NOT_VALID);
+        return refused(Refusal::NotValid);
     }
     if value.id == CONFIGURATION {
         return write_configuration(value.set, &value.configuration, out);
     }
     if !(assigned(value.id) & is_zero(&value.configuration)) {
-        return refused(NOT_VALID);
+        return refused(Refusal::NotValid);
     }
     write_without_blocks(value.id, value.set, out)
 }

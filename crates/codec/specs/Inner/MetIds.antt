@@ -1,7 +1,7 @@
 -- What the walk keeps of the IDs: one number with a bit for each ID met.
 use Rattle.std.specs.Prelude.{ℕ, ◌-◌, ◌≡◌, List, ◌↔◌, true}
 use Rattle.std.specs.Int.Count.{ones}
-use Rattle.codec.specs.Refusal.{accept}
+use Rattle.codec.specs.Refusal.{Ok}
 use Rattle.codec.specs.Technology.{bit}
 use Rattle.codec.specs.Blocks.{Column, layouts}
 use Rattle.codec.specs.Table.{message_of, row}
@@ -12,7 +12,7 @@ use Rattle.codec.specs.WellFormed.{Has}
 -- the bits of `met` are exactly their IDs.
 pub record Met (k : Column) (m : List ℕ) (at met : ℕ) : Type 0 where
   pub walked : Walked
-  pub accepted : walk (layouts k) (set_of m) m (ones met) no_id (blocks_at (row (message_of k)).times) ≡ accept walked
+  pub accepted : walk (layouts k) (set_of m) m (ones met) no_id (blocks_at (row (message_of k)).times) ≡ Ok walked
   pub place : walked.end ≡ at
   pub bits : (id : ℕ) → (bit met id ≡ true) ↔ Has id walked.blocks
 

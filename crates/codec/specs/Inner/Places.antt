@@ -2,24 +2,22 @@
 use Rattle.std.specs.Prelude.{ℕ, ◌+◌, ◌≤◌, ◌≡◌, List, [], ◌∷◌, Bool, true, false, ◌&&◌, not, cond, leb, ltb, eqb, length, get_or, set, drop, replicate}
 use Rattle.std.proofs.Math.Option.{Option, none, some}
 use Rattle.codec.specs.Octets.{Octets}
-use Rattle.codec.specs.Refusal.{Checked, refuse, accept, demand, number_of, too_long, ends_early, reserved_id, wrong_block, block_too_small}
+use Rattle.codec.specs.Refusal.{Checked, Err, Ok, demand, TooLong, EndsEarly, ReservedId, WrongBlock, BlockTooSmall}
 use Rattle.codec.specs.Technology.{Technology, uwb, cs, nan, rssi, technology_id, technologies, bit, known, names}
 use Rattle.codec.specs.Layout.{Layout, number, octets, counted, Values, zeroes, value, least, fault}
 use Rattle.codec.specs.Blocks.{Column, capabilities, configurations, cell, layouts}
 use Rattle.codec.specs.Table.{message_limit, assigned, message_of, Row}
-use Rattle.codec.specs.Records.{StructOf, make, blank, accepted, answer}
-use Rattle.codec.specs.Message.{Walked, walk, id_of, set_of, block_at, parse, reading}
+use Rattle.codec.specs.Records.{StructOf, make, blank}
+use Rattle.codec.specs.Message.{Walked, walk, id_of, set_of, block_at, reading}
 use Rattle.codec.specs.Inner.MetIds.{blocks_left}
-use Rattle.codec.specs.Listing.{no_block, nth_from, nth_block}
 use Rattle.codec.specs.declared.records.Configuration.{Configuration}
 use Rattle.codec.specs.declared.records.Record.{Record}
 use Rattle.codec.specs.declared.records.Heard.{Heard}
-use Rattle.codec.specs.declared.records.Block.{Block}
 
--- the number that the code gives: 0 for no refusal
-abbrev pub number_in : {A : Type 0} → Checked A → ℕ
-number_in (refuse x) = number_of x
-number_in (accept a) = 0
+-- whether checks refuse, without what they find
+abbrev pub verdict : {A : Type 0} → Checked A → Checked (Unit {0})
+verdict (Err x) = Err x
+verdict (Ok a) = Ok tt
 
 -- whether octets reach past the last field of a block, and what is counted fits its array: as a test, and as what the reading of each
 -- field rests on
@@ -39,10 +37,10 @@ Roomy (counted y x t c ∷ L) at s = (get_or s at 0 ≤ c) × Roomy L (at + 1 + 
 
 abbrev pub head_fault : List ℕ → Checked (Unit {0})
 head_fault m =
-    demand (leb (length m) message_limit) too_long
-    (demand (leb 2 (length m)) ends_early
-    (demand (assigned (id_of m)) reserved_id
-    (accept tt)))
+    demand (leb (length m) message_limit) TooLong
+    (demand (leb 2 (length m)) EndsEarly
+    (demand (assigned (id_of m)) ReservedId
+    (Ok tt)))
 
 -- ---- one block
 
@@ -50,14 +48,14 @@ head_fault m =
 abbrev pub id_fault : ℕ → ℕ → List ℕ → ℕ → Checked (Unit {0})
 id_fault set met m at =
     let id = get_or m at 0 in
-    demand (leb (at + 2) (length m)) ends_early (demand (bit set id && not (bit met id)) wrong_block (accept tt))
+    demand (leb (at + 2) (length m)) EndsEarly (demand (bit set id && not (bit met id)) WrongBlock (Ok tt))
 
 -- its size, and then what is next
 abbrev pub sized : ℕ → List ℕ → ℕ → Checked (Unit {0}) → Checked (Unit {0})
-sized least m at next = demand (leb least (get_or m (at + 1) 0)) block_too_small (demand (leb (at + get_or m (at + 1) 0) (length m)) ends_early next)
+sized least m at next = demand (leb least (get_or m (at + 1) 0)) BlockTooSmall (demand (leb (at + get_or m (at + 1) 0) (length m)) EndsEarly next)
 
 abbrev pub size_fault : ℕ → List ℕ → ℕ → Checked (Unit {0})
-size_fault least m at = sized least m at (accept tt)
+size_fault least m at = sized least m at (Ok tt)
 
 -- its size and its fields, by a layout
 abbrev pub layout_fault : Layout → List ℕ → ℕ → Checked (Unit {0})
@@ -84,14 +82,14 @@ abbrev pub noted : List (List ℕ) → ℕ → List ℕ → List ℕ
 noted [] at found = set found 4 at
 noted (b ∷ blocks) at found = noted blocks (at + length b) (note (get_or b 0 0) at found)
 
--- what the walk leaves: the number of the first fault, or 0 with the places and the end
-abbrev pub Finds : Checked Walked → ℕ → List ℕ → ℕ → List ℕ → Type 0
-Finds (refuse x) at found f left = f ≡ number_of x
-Finds (accept w) at found f left = (f ≡ 0) × (left ≡ noted w.blocks at found) × (get_or left 4 0 ≡ w.end)
+-- what the walk gives and leaves: the first fault, or the places and the end
+abbrev pub Finds : Checked Walked → ℕ → List ℕ → Checked (Unit {0}) → List ℕ → Type 0
+Finds (Err x) at found r left = r ≡ Err x
+Finds (Ok w) at found r left = (r ≡ Ok tt) × (left ≡ noted w.blocks at found) × (get_or left 4 0 ≡ w.end)
 
 -- of the blocks that are left from a place on, after those whose IDs were met; when none is left, those met are the set
-pub record FindsLeft (k : Column) (m : List ℕ) (at met : ℕ) (found : List ℕ) (f : ℕ) (after : List ℕ) : Type 0 where
-  pub finds : Finds (walk (layouts k) (set_of m) m (blocks_left m met) (bit met) at) at found f after
+pub record FindsLeft (k : Column) (m : List ℕ) (at met : ℕ) (found : List ℕ) (r : Checked (Unit {0})) (after : List ℕ) : Type 0 where
+  pub finds : Finds (walk (layouts k) (set_of m) m (blocks_left m met) (bit met) at) at found r after
   pub all : blocks_left m met ≡ 0 → met ≡ set_of m
   pub size : length after ≡ 5
 
@@ -103,10 +101,10 @@ abbrev pub carries_blocks : Option Column → Bool
 carries_blocks none = false
 carries_blocks (some k) = true
 
--- the number of the first fault, and the places where there is none and they are kept
-pub record Judged (kept : Bool) (c : Checked (List (List ℕ))) (at : ℕ) (found : List ℕ) (f : ℕ) (left : List ℕ) : Type 0 where
-  pub number : f ≡ number_in c
-  pub places : kept ≡ true → (blocks : List (List ℕ)) → c ≡ accept blocks → left ≡ noted blocks at found
+-- the first fault, and the places where there is none and they are kept
+pub record Judged (kept : Bool) (c : Checked (List (List ℕ))) (at : ℕ) (found : List ℕ) (r : Checked (Unit {0})) (left : List ℕ) : Type 0 where
+  pub judges : r ≡ verdict c
+  pub places : kept ≡ true → (blocks : List (List ℕ)) → c ≡ Ok blocks → left ≡ noted blocks at found
   pub size : length left ≡ 5
 
 -- ---- the record that the places give
@@ -130,16 +128,19 @@ record_at m found = record {
   configuration = column_found m found configurations;
 }
 
--- what is found in a message: the number of its first fault, or 0 and places that give its record, where each technology that is named
--- has a whole block
-pub record Located (m : List ℕ) (f : ℕ) (places : List ℕ) : Type 0 where
-  pub number : f ≡ number_in (parse m)
-  pub four : f ≡ 0 → 4 ≤ length m
-  pub reads : f ≡ 0 → accepted (record_at m places) ≡ answer (reading m)
-  pub there : f ≡ 0 → Octets m → (k : Column) → id_of m ≡ message_of k → (t : Technology) → names (set_of m) t ≡ true
+-- places that give the record of a message, where each technology that is named has a whole block
+pub record Placed (m places : List ℕ) : Type 0 where
+  pub four : 4 ≤ length m
+  pub reads : reading m ≡ Ok (record_at m places)
+  pub there : Octets m → (k : Column) → id_of m ≡ message_of k → (t : Technology) → names (set_of m) t ≡ true
       → Roomy (cell k t) 2 (drop (get_or places (technology_id t) 0) m)
 
--- ---- what a tag hears of a message: refusal, ID and set, and the places of a Configuration's blocks
+-- what is found in a message: the refusal that its reading is, or such places
+abbrev pub Located : List ℕ → Checked (List ℕ) → Type 0
+Located m (Err x) = reading m ≡ Err x
+Located m (Ok places) = Placed m places
+
+-- ---- what a tag hears of a message: ID and set, and the places of a Configuration's blocks
 
 abbrev pub place_in : Heard → Technology → ℕ
 place_in h uwb = h.uwb
@@ -151,37 +152,14 @@ place_in h rssi = h.rssi
 abbrev pub settings_at : Heard → List ℕ → Configuration
 settings_at h m = make configurations (λ t. fields_at (cell configurations t) m (place_in h t))
 
+-- of a message that is read as a record
+pub record HearsOf (r : Record) (m : List ℕ) (h : Heard) : Type 0 where
+  pub id : h.id ≡ r.id
+  pub set : h.set ≡ r.set
+  pub settings : h.id ≡ message_of configurations → settings_at h m ≡ r.configuration
+
 -- of a message that is read so, or refused
-pub record Hears (o : Checked Record) (m : List ℕ) (h : Heard) : Type 0 where
-  pub refusal : h.refusal ≡ (answer o).refusal
-  pub id : h.id ≡ (answer o).value.id
-  pub set : h.set ≡ (answer o).value.set
-  pub settings : h.refusal ≡ 0 → h.id ≡ message_of configurations → settings_at h m ≡ (answer o).value.configuration
-
--- ---- the listing: the blocks that are left from a place on
-
--- the block at a place, none at 0
-abbrev pub listed_at : List ℕ → ℕ → Block
-listed_at m at = cond (eqb at 0) no_block (record { place = at; id = get_or m at 0; size = get_or m (at + 1) 0 })
-
--- a place with a block's two head octets, or 0
-abbrev pub Heads : List ℕ → ℕ → Type 0
-Heads m at = (at ≡ 0 → ⊥) → at + 2 ≤ length m
-
--- the walk passes over as many blocks
-pub record Passes (m : List ℕ) (left at : ℕ) : Type 0 where
-  pub layouts : ℕ → Layout
-  pub set : ℕ
-  pub came : ℕ → Bool
-  pub walked : Walked
-  pub accepted : walk layouts set m left came at ≡ accept walked
-
--- the place of the n-th of them, 0 for none
-pub record NthPlace (m : List ℕ) (left at n r : ℕ) : Type 0 where
-  pub heads : Heads m r
-  pub lists : (p : Passes m left at) → listed_at m r ≡ nth_from p.walked.blocks at n
-
--- the place of the n-th block of a message, 0 for none
-pub record Lists (m : List ℕ) (n r : ℕ) : Type 0 where
-  pub heads : Heads m r
-  pub lists : listed_at m r ≡ nth_block m n
+abbrev pub Hears : Checked Record → List ℕ → Checked Heard → Type 0
+Hears (Err x) m h = h ≡ Err x
+Hears (Ok r) m (Err x) = ⊥
+Hears (Ok r) m (Ok h) = HearsOf r m h

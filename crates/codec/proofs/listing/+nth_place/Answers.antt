@@ -1,5 +1,4 @@
 use Rattle.codec.proofs.Listed.{head_there, passes_next, lists_none, lists_first, lists_next}
-use native.Mathlib.Omega.{arith}
 use borrow.Author.Rules.{rules}
 use Rattle.codec.proofs.listing.+nth_place.Goals as goal
 
@@ -7,13 +6,13 @@ pub returns-then-left-eq0 : goal.returns-then-left-eq0
 returns-then-left-eq0 t c = lists_none _ _ _ _ c.if-left-eq0.true
 
 pub returns-then-n-eq0 : goal.returns-then-n-eq0
-returns-then-n-eq0 t c = lists_first _ _ _ c.if-left-eq0.false _ c.if-n-eq0.true c.requires.0 c.requires.1
+returns-then-n-eq0 t c = lists_first _ _ _ c.if-left-eq0.false _ c.if-n-eq0.true c.requires
 
 pub next_place-requires : goal.next_place-requires
-next_place-requires t c = head_there _ _ _ c.if-left-eq0.false c.requires.0
+next_place-requires t c = head_there _ _ _ c.if-left-eq0.false c.requires
 
 pub nth_place-requires : goal.nth_place-requires
-nth_place-requires t c = (search rules, (rw c.next_place.ensures (passes_next _ _ _ c.if-left-eq0.false c.requires.0), λ e. c.requires.1 (omega (arith, c.next_place.ensures))))
+nth_place-requires t c = (search rules, rw c.next_place.ensures (passes_next _ _ _ c.if-left-eq0.false c.requires))
 
 pub returns : goal.returns
 returns t c = lists_next _ _ _ c.if-left-eq0.false _ _ c.if-n-eq0.false (rw c.next_place.ensures at c.nth_place.ensures)
