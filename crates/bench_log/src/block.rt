@@ -8,6 +8,7 @@ ghost use Rattle.bench_log.specs.Inner.BlockFields.{is_width, are_fields, field_
 ghost use Rattle.bench_log.specs.Inner.Differences.{column_by, technology_by};
 
 use crate::difference::Heading;
+use Field::{Counted, Number, Octets};
 use codec::technology::{CS, NAN, UWB};
 
 // A field of a block, with its name.
@@ -20,8 +21,6 @@ pub(crate) enum Field {
     // An octet that says how many, and then so many octets, each with its name.
     Counted(&'static [u8], &'static [u8]),
 }
-
-use Field::{Counted, Number, Octets};
 
 // A column of 01's table: the blocks of message 1, or of message 2.
 #[derive(Clone, Copy, Debug, PartialEq, Eq)]

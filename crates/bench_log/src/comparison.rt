@@ -28,12 +28,6 @@ pub struct Compared {
     pub length: usize,
 }
 
-#[derive(Clone, Copy, Debug, PartialEq, Eq)]
-enum Side {
-    Left,
-    Right,
-}
-
 // The lines of pairs of records, so many from the start of two pieces, at the start of the buffer.
 fn tell_pairs(out: &mut [u8], before: Kinds, left: &[u8], right: &[u8], count: usize) -> Compared
     requires { (count * record_size ≤ length left.now) × (count * record_size ≤ length right.now) × (count * position_limit ≤ length out.old) }
@@ -56,6 +50,13 @@ fn tell_pairs(out: &mut [u8], before: Kinds, left: &[u8], right: &[u8], count: u
         kinds = kinds.counted(said.kind);
     }
     Compared { kinds, length }
+}
+
+// Of a record that only one log has: which of the two.
+#[derive(Clone, Copy, Debug, PartialEq, Eq)]
+enum Side {
+    Left,
+    Right,
 }
 
 impl Side {
