@@ -2,7 +2,8 @@
 // missing counts as empty.
 #![tactic(auto)]
 
-ghost use Rattle.std.specs.Prelude.{◌≤◌, IfOk, length};
+ghost use Rattle.std.specs.Prelude.{◌≡◌, ◌<◌, IfOk};
+ghost use Rattle.log_io.specs.Logs.{Reads};
 
 use bench_log::{Kinds, POSITION_LIMIT, RECORD_SIZE};
 use log_io::Said;
@@ -29,7 +30,8 @@ impl<R: Read + Drop> Log<R> {
     // Reads the next piece, and gives how many octets it has. The log has ended if the piece is not full. Its partial last record is in the
     // last piece that any octets were read of.
     fn next_piece(&mut self, rt: &impl Eprint, piece: &mut [u8; PIECE_SIZE]) -> Result<usize, Said>
-        ensures { IfOk result (λ n. n ≤ length piece.new) }
+        ensures reads { IfOk result (λ n. Reads R.remaining self.old.file self.new.file n piece.new) }
+        ensures ended { IfOk result (λ n. n < PIECE_SIZE → self.new.file ≡ None) }
     {
         let failure = self.failure;
         let length = log_io::read_piece(&mut self.file, piece).map_err(|failed| log_io::say(
