@@ -19,17 +19,17 @@ use session::{Answer, Session, Started};
 pub extern "C" fn raydulcimer_read(message: &[u8]) -> Reading
     ensures { Reads message.now result }
 {
-    let found = codec::find(message);
-    if found.fault != 0 {
-        return codec::refused(found.fault);
-    }
+    let places = match codec::find(message) {
+        Ok(places) => places,
+        Err(refusal) => return codec::refused(refusal),
+    };
     let id = message[1];
     let set = message[2] as u16 % SET_LIMIT;
     if id == CAPABILITY_RESPONSE {
-        return codec::response_read(set, message, &found.places);
+        return codec::response_read(set, message, &places);
     }
     if id == CONFIGURATION {
-        return codec::configuration_read(set, message, &found.places);
+        return codec::configuration_read(set, message, &places);
     }
     codec::set_read(id, set)
 }
