@@ -1,6 +1,7 @@
 -- The blocks that are listed are those that the walk passes over.
 use Prim.Native.Nat.{ℕ, zero, suc, ◌+◌, ◌-◌, ◌≤◌}
 use native.Mathlib.Numerals.{sub-one}
+use native.Mathlib.Omega.{arith}
 use mathlib.Core.Path.{◌≡◌, refl, sym, ap, ◌∙◌}
 use mathlib.Core.List.{List, []}
 use lib.Count.{ones}
@@ -61,6 +62,12 @@ module _ (m : List ℕ) (at : ℕ) where
             ∙ ap (λ (i : ℕ). nth_from q.walked.blocks (at + i) n) (sym s.size)
             ∙ ap (λ (w : Walked). nth_from w.blocks at (suc n)) e;
       }
+
+-- none after all that are left
+pub lists_past : (m : List ℕ) (left at n : ℕ) → left ≤ n → NthPlace m left at n None
+lists_past m zero at n l = lists_none m at zero n refl
+lists_past m (suc left) at n l =
+    lists_next m at (suc left) (λ z. omega (arith, z)) n None (λ z. omega (arith, z, l)) (rw (sub-one (suc left)) (lists_past m left (place_after m at) (n - 1) (omega (arith, l))))
 
 -- ---- a message
 

@@ -42,25 +42,34 @@ fn pass(m: &[u8], at: usize, found: &mut [u16; 5]) -> usize
 
 // The first fault of the blocks that are left, from a place on. For none, `found` has the places of the known technologies' blocks and
 // the place after the last block. Of the IDs it keeps one number, `met`, with a bit for each ID met; as many blocks are left as the set
-// has other bits. The message is behind a second reference, so that the compiler makes a loop of the recursion.
+// has other bits. The message is behind a second reference, and the verdict is left in place of being returned, so that the compiler
+// makes a loop of the recursion.
 pub(crate) fn walk<C: Column>(
     m: &&[u8],
     at: usize,
     set: u16,
     met: u16,
     found: &mut [u16; 5],
-) -> Result<(), Refusal>
+    verdict: &mut Result<(), Refusal>,
+)
     requires { (length m.now.now ≤ message_limit) × (at ≤ length m.now.now) × (length found.old ≡ 5) × (set ≡ set_of m.now.now) × Met C.column m.now.now at met }
-    ensures { FindsLeft C.column m.now.now at met found.old result found.new }
+    ensures { FindsLeft C.column m.now.now at met found.old verdict.new found.new }
 {
     let left = u32::count_ones(unmet(set, met));
     if left == 0 {
         found[4] = at as u16;
-        return Ok(());
+        *verdict = Ok(());
+        return;
     }
-    id_fault(*m, at, set, met)?;
-    C::fault(*m, at)?;
+    if let Err(refusal) = id_fault(*m, at, set, met) {
+        *verdict = Err(refusal);
+        return;
+    }
+    if let Err(refusal) = C::fault(*m, at) {
+        *verdict = Err(refusal);
+        return;
+    }
     let more = also_met(met, m[at]);
     let next = pass(*m, at, found);
-    walk::<C>(m, next, set, more, found)
+    walk::<C>(m, next, set, more, found, verdict);
 }
