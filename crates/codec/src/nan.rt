@@ -1,5 +1,5 @@
 // Wi-Fi NAN RTT: its two blocks.
-ghost use Rattle.std.specs.Prelude.{◌≡◌, ◌+◌, ◌≤◌, length};
+ghost use Rattle.std.specs.Prelude.{◌≡◌, refl, ◌+◌, ◌≤◌, length};
 ghost use Rattle.codec.specs.Layout.{fault};
 ghost use Rattle.codec.specs.Blocks.{nan_capability, nan_configuration};
 ghost use Rattle.codec.specs.Records.{to_nan_capability, to_nan_configuration, of_nan_capability, of_nan_configuration};
@@ -86,6 +86,8 @@ impl Fields for NanCapability {
 
     ghost values = { of_nan_capability };
 
+    ghost keeps = { λ v. refl };
+
     fn zero() -> NanCapability {
         NanCapability {
             features: 0,
@@ -135,6 +137,8 @@ impl Fields for NanConfiguration {
     ghost made = { to_nan_configuration };
 
     ghost values = { of_nan_configuration };
+
+    ghost keeps = { λ v. refl };
 
     fn zero() -> NanConfiguration {
         NanConfiguration {

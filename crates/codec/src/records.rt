@@ -4,12 +4,10 @@ ghost use Rattle.codec.specs.Blocks.{capabilities, configurations};
 ghost use Rattle.codec.specs.Refusal.{number_of};
 ghost use Rattle.codec.specs.Records.{message_id, refused};
 
-use crate::columns::Column;
+use crate::columns::{Column, zero};
 use crate::cs::{CsCapability, CsConfiguration};
-use crate::fields::Fields;
 use crate::message::{CAPABILITY_REQUEST, CONFIGURATION_RESPONSE, STOP, STOP_RESPONSE};
 use crate::nan::{NanCapability, NanConfiguration};
-use crate::places::fields_at;
 use crate::refusal::Refusal;
 use crate::rssi::Rssi;
 use crate::uwb::{UwbCapability, UwbConfiguration};
@@ -111,22 +109,8 @@ impl Column for Capability {
 
     ghost kept = { λ c. c };
 
-    fn zero() -> Capability {
-        Capability {
-            uwb: UwbCapability::zero(),
-            cs: CsCapability::zero(),
-            nan: NanCapability::zero(),
-            rssi: Rssi::zero(),
-        }
-    }
-
-    fn read(m: &[u8], places: &[u16; 5]) -> Capability {
-        Capability {
-            uwb: fields_at(m, u32::from(places[0])),
-            cs: fields_at(m, u32::from(places[1])),
-            nan: fields_at(m, u32::from(places[2])),
-            rssi: fields_at(m, u32::from(places[3])),
-        }
+    fn of(uwb: UwbCapability, cs: CsCapability, nan: NanCapability, rssi: Rssi) -> Capability {
+        Capability { uwb, cs, nan, rssi }
     }
 
     fn uwb(&self) -> &UwbCapability {
@@ -157,22 +141,13 @@ impl Column for Configuration {
 
     ghost kept = { λ c. c };
 
-    fn zero() -> Configuration {
-        Configuration {
-            uwb: UwbConfiguration::zero(),
-            cs: CsConfiguration::zero(),
-            nan: NanConfiguration::zero(),
-            rssi: Rssi::zero(),
-        }
-    }
-
-    fn read(m: &[u8], places: &[u16; 5]) -> Configuration {
-        Configuration {
-            uwb: fields_at(m, u32::from(places[0])),
-            cs: fields_at(m, u32::from(places[1])),
-            nan: fields_at(m, u32::from(places[2])),
-            rssi: fields_at(m, u32::from(places[3])),
-        }
+    fn of(
+        uwb: UwbConfiguration,
+        cs: CsConfiguration,
+        nan: NanConfiguration,
+        rssi: Rssi,
+    ) -> Configuration {
+        Configuration { uwb, cs, nan, rssi }
     }
 
     fn uwb(&self) -> &UwbConfiguration {
@@ -196,8 +171,8 @@ impl Column for Configuration {
 pub fn refused(refusal: Refusal) -> Reading
     ensures { result ≡ refused (number_of refusal) }
 {
-    let capability = Capability::zero();
-    let configuration = Configuration::zero();
+    let capability = zero();
+    let configuration = zero();
     Reading {
         refusal: u8::from(refusal),
         value: Record {
