@@ -11,7 +11,7 @@ use Rattle.codec.specs.Inner.Places.{size_fault, layout_fault, fields_fault}
 use Rattle.codec.specs.Technology.{Technology, uwb, cs, nan, rssi, technology_id}
 use Rattle.codec.specs.Layout.{Layout, Values}
 use Rattle.codec.specs.Blocks.{uwb_capability, cs_capability, nan_capability, rssi_block, uwb_configuration, cs_configuration, nan_configuration, Column, capabilities, configurations, cell, layouts}
-use Rattle.codec.specs.Records.{make, fields, to_record, of_record}
+use Rattle.codec.specs.Records.{StructOf, to_uwb_capability, to_cs_capability, to_nan_capability, to_uwb_configuration, to_cs_configuration, to_nan_configuration, to_rssi, make, fields, to_record, of_record}
 use Rattle.codec.specs.declared.records.Record.{Record}
 use Rattle.codec.proofs.Layouts.{fits, most}
 
@@ -73,6 +73,11 @@ fields_make configurations f uwb = refl
 fields_make configurations f cs = refl
 fields_make configurations f nan = refl
 fields_make configurations f rssi = refl
+
+-- a struct with these fields, technology by technology
+pub made_of : (k : Column) (c : StructOf k) (f : (t : Technology) → Values (cell k t)) → fields k c uwb ≡ f uwb → fields k c cs ≡ f cs → fields k c nan ≡ f nan → fields k c rssi ≡ f rssi → c ≡ make k f
+made_of capabilities c f u s n r = λ i. record { uwb = to_uwb_capability (u i); cs = to_cs_capability (s i); nan = to_nan_capability (n i); rssi = to_rssi (r i) }
+made_of configurations c f u s n r = λ i. record { uwb = to_uwb_configuration (u i); cs = to_cs_configuration (s i); nan = to_nan_configuration (n i); rssi = to_rssi (r i) }
 
 pub cell_here : (id set : ℕ) (f : (k : Column) (t : Technology) → Values (cell k t)) (k : Column) (t : Technology) → of_record (to_record id set f) k t ≡ f k t
 cell_here id set f capabilities t = fields_make capabilities (f capabilities) t

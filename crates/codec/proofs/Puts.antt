@@ -93,6 +93,9 @@ module _ (k : Column) (c : StructOf k) (set : ℕ) (t : Technology) {L : Layout}
   pub in_zero : zeroed L v ≡ zeroed (cell k t) (fields k c t)
   in_zero = ap (λ (x : Filled). zeroed x.0 x.1) e
 
+  pub in_made : (f : (M : Layout) → Values M) → v ≡ f L → fields k c t ≡ f (cell k t)
+  in_made f h = subst (λ (x : Filled). x.1 ≡ f x.0) e h
+
   module _ {p : Bool} (n : p ≡ names set t) where
     pub in_valid : valid_fields L p v ≡ valid_fields (cell k t) (names set t) (fields k c t)
     in_valid = ap (λ (b : Bool). valid_fields L b v) n ∙ ap (λ (x : Filled). valid_fields x.0 (names set t) x.1) e

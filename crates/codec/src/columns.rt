@@ -1,6 +1,6 @@
 // A column of 01's table: the struct that holds what the blocks of one message say.
 ghost use Rattle.std.specs.Prelude.{◌≡◌, ◌+◌, ◌≤◌, length};
-ghost use Rattle.codec.specs.Technology.{uwb, cs, nan, rssi};
+ghost use Rattle.codec.specs.Technology as technology;
 ghost use Rattle.codec.specs.Blocks.{Column as TableColumn, layouts, rssi_block};
 ghost use Rattle.codec.specs.Table.{row, message_of};
 ghost use Rattle.codec.specs.Message.{blocks_at};
@@ -9,6 +9,7 @@ ghost use Rattle.codec.specs.Inner.Places.{column_at, fields_fault};
 ghost use Rattle.codec.specs.Inner.Puts.{InColumn};
 
 use crate::fields::Fields;
+use crate::places::fields_at;
 use crate::refusal::Refusal;
 use crate::rssi::Rssi;
 
@@ -32,30 +33,40 @@ pub trait Column: Copy {
         requires { at + 2 ≤ length m.now }
         ensures { result ≡ fields_fault (layouts column) m.now at };
 
-    // All fields zero.
-    fn zero() -> Self
-        ensures { kept result ≡ blank column };
-
-    // What the blocks at these places of a message say.
-    fn read(m: &[u8], places: &[u16; 5]) -> Self
-        ensures { kept result ≡ column_at column m.now places.now };
+    // The column of these fields.
+    fn of(uwb: Self::Uwb, cs: Self::Cs, nan: Self::Nan, rssi: Rssi) -> Self
+        ensures uwb { InColumn column (kept result) technology.uwb Self.Uwb.layout (Self.Uwb.values uwb) }
+        ensures cs { InColumn column (kept result) technology.cs Self.Cs.layout (Self.Cs.values cs) }
+        ensures nan { InColumn column (kept result) technology.nan Self.Nan.layout (Self.Nan.values nan) }
+        ensures rssi { InColumn column (kept result) technology.rssi rssi_block (of_rssi rssi) };
 
     fn uwb(&self) -> &Self::Uwb
-        ensures { InColumn column (kept self.now) uwb Self.Uwb.layout (Self.Uwb.values result.now) };
+        ensures { InColumn column (kept self.now) technology.uwb Self.Uwb.layout (Self.Uwb.values result.now) };
 
     fn cs(&self) -> &Self::Cs
-        ensures { InColumn column (kept self.now) cs Self.Cs.layout (Self.Cs.values result.now) };
+        ensures { InColumn column (kept self.now) technology.cs Self.Cs.layout (Self.Cs.values result.now) };
 
     fn nan(&self) -> &Self::Nan
-        ensures { InColumn column (kept self.now) nan Self.Nan.layout (Self.Nan.values result.now) };
+        ensures { InColumn column (kept self.now) technology.nan Self.Nan.layout (Self.Nan.values result.now) };
 
     fn rssi(&self) -> &Rssi
-        ensures { InColumn column (kept self.now) rssi rssi_block (of_rssi result.now) };
+        ensures { InColumn column (kept self.now) technology.rssi rssi_block (of_rssi result.now) };
 }
 
 // All fields zero.
 pub fn zero<C: Column>() -> C
     ensures { C.kept result ≡ blank C.column }
 {
-    C::zero()
+    C::of(C::Uwb::zero(), C::Cs::zero(), C::Nan::zero(), Rssi::zero())
+}
+
+// What the blocks at these places of a message say.
+pub(crate) fn column_at<C: Column>(m: &[u8], places: &[u16; 5]) -> C
+    ensures { C.kept result ≡ column_at C.column m.now places.now }
+{
+    let uwb = fields_at(m, u32::from(places[0]));
+    let cs = fields_at(m, u32::from(places[1]));
+    let nan = fields_at(m, u32::from(places[2]));
+    let rssi = fields_at(m, u32::from(places[3]));
+    C::of(uwb, cs, nan, rssi)
 }

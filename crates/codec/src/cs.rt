@@ -1,5 +1,5 @@
 // CS, channel sounding: its two blocks.
-ghost use Rattle.std.specs.Prelude.{◌≡◌, ◌+◌, ◌≤◌, length};
+ghost use Rattle.std.specs.Prelude.{◌≡◌, refl, ◌+◌, ◌≤◌, length};
 ghost use Rattle.codec.specs.Layout.{fault};
 ghost use Rattle.codec.specs.Blocks.{cs_capability, cs_configuration};
 ghost use Rattle.codec.specs.Records.{to_cs_capability, to_cs_configuration, of_cs_capability, of_cs_configuration};
@@ -29,6 +29,8 @@ impl Fields for CsCapability {
     ghost made = { to_cs_capability };
 
     ghost values = { of_cs_capability };
+
+    ghost keeps = { λ v. refl };
 
     fn zero() -> CsCapability {
         CsCapability {
@@ -81,6 +83,8 @@ impl Fields for CsConfiguration {
     ghost made = { to_cs_configuration };
 
     ghost values = { of_cs_configuration };
+
+    ghost keeps = { λ v. refl };
 
     fn zero() -> CsConfiguration {
         CsConfiguration {

@@ -51,4 +51,6 @@ pub trait Fields: Copy {
     fn put_fields(&self, out: &mut [u8], at: usize) -> usize
         requires { (at + length (write layout (values self.now)) ≤ length out.old) × Held layout (values self.now) }
         ensures { Put out.old at (write layout (values self.now)) out.new result };
+
+    ghost keeps: { (v : Values layout) → values (made v) ≡ v };
 }

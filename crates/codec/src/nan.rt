@@ -1,5 +1,5 @@
 // Wi-Fi NAN RTT: its two blocks.
-ghost use Rattle.std.specs.Prelude.{◌≡◌, ◌+◌, ◌≤◌, length};
+ghost use Rattle.std.specs.Prelude.{◌≡◌, refl, ◌+◌, ◌≤◌, length};
 ghost use Rattle.codec.specs.Layout.{fault};
 ghost use Rattle.codec.specs.Blocks.{nan_capability, nan_configuration};
 ghost use Rattle.codec.specs.Records.{to_nan_capability, to_nan_configuration, of_nan_capability, of_nan_configuration};
@@ -33,6 +33,8 @@ impl Fields for NanCapability {
     ghost made = { to_nan_capability };
 
     ghost values = { of_nan_capability };
+
+    ghost keeps = { λ v. refl };
 
     fn zero() -> NanCapability {
         NanCapability {
@@ -94,6 +96,8 @@ impl Fields for NanConfiguration {
     ghost made = { to_nan_configuration };
 
     ghost values = { of_nan_configuration };
+
+    ghost keeps = { λ v. refl };
 
     fn zero() -> NanConfiguration {
         NanConfiguration {

@@ -6,11 +6,11 @@ ghost use Rattle.codec.specs.Records.{answer, accepted, response, settings_recor
 ghost use Rattle.codec.specs.Inner.Places.{column_at, Located, Placed};
 
 use crate::checks::message_fault;
-use crate::columns::Column;
+use crate::columns::{column_at, zero};
 use crate::message::{CAPABILITY_RESPONSE, CONFIGURATION};
 use crate::octets::u16_at;
 use crate::places::NO_PLACE;
-use crate::records::{Capability, Configuration, Reading, Record, refused};
+use crate::records::{Reading, Record, refused};
 use crate::refusal::Refusal;
 use crate::technology::SET_LIMIT;
 
@@ -27,8 +27,8 @@ pub fn find(message: &[u8]) -> Result<[u16; 5], Refusal>
 pub fn response_read(set: u16, m: &[u8], places: &[u16; 5]) -> Reading
     ensures { result ≡ accepted (response set (column_at capabilities m.now places.now)) }
 {
-    let capability = Capability::read(m, places);
-    let configuration = Configuration::zero();
+    let capability = column_at(m, places);
+    let configuration = zero();
     Reading {
         refusal: 0,
         value: Record {
@@ -44,8 +44,8 @@ pub fn response_read(set: u16, m: &[u8], places: &[u16; 5]) -> Reading
 pub fn configuration_read(set: u16, m: &[u8], places: &[u16; 5]) -> Reading
     ensures { result ≡ accepted (settings_record set (column_at configurations m.now places.now)) }
 {
-    let configuration = Configuration::read(m, places);
-    let capability = Capability::zero();
+    let configuration = column_at(m, places);
+    let capability = zero();
     Reading {
         refusal: 0,
         value: Record {
@@ -61,8 +61,8 @@ pub fn configuration_read(set: u16, m: &[u8], places: &[u16; 5]) -> Reading
 pub fn set_read(id: u8, set: u16) -> Reading
     ensures { result ≡ accepted (without_blocks id set) }
 {
-    let capability = Capability::zero();
-    let configuration = Configuration::zero();
+    let capability = zero();
+    let configuration = zero();
     Reading {
         refusal: 0,
         value: Record {

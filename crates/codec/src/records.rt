@@ -5,12 +5,10 @@ ghost use Rattle.codec.specs.Refusal.{number_of};
 ghost use Rattle.codec.specs.Records.{message_id, refused};
 
 use crate::blocks::fault_by_id;
-use crate::columns::Column;
+use crate::columns::{Column, zero};
 use crate::cs::{CsCapability, CsConfiguration};
-use crate::fields::Fields;
 use crate::message::{CAPABILITY_REQUEST, CONFIGURATION_RESPONSE, STOP, STOP_RESPONSE};
 use crate::nan::{NanCapability, NanConfiguration};
-use crate::places::fields_at;
 use crate::refusal::Refusal;
 use crate::rssi::Rssi;
 use crate::uwb::{UwbCapability, UwbConfiguration};
@@ -120,22 +118,8 @@ impl Column for Capability {
         fault_by_id::<UwbCapability, CsCapability, NanCapability>(m, at)
     }
 
-    fn zero() -> Capability {
-        Capability {
-            uwb: UwbCapability::zero(),
-            cs: CsCapability::zero(),
-            nan: NanCapability::zero(),
-            rssi: Rssi::zero(),
-        }
-    }
-
-    fn read(m: &[u8], places: &[u16; 5]) -> Capability {
-        Capability {
-            uwb: fields_at(m, u32::from(places[0])),
-            cs: fields_at(m, u32::from(places[1])),
-            nan: fields_at(m, u32::from(places[2])),
-            rssi: fields_at(m, u32::from(places[3])),
-        }
+    fn of(uwb: UwbCapability, cs: CsCapability, nan: NanCapability, rssi: Rssi) -> Capability {
+        Capability { uwb, cs, nan, rssi }
     }
 
     fn uwb(&self) -> &UwbCapability {
@@ -174,22 +158,13 @@ impl Column for Configuration {
         fault_by_id::<UwbConfiguration, CsConfiguration, NanConfiguration>(m, at)
     }
 
-    fn zero() -> Configuration {
-        Configuration {
-            uwb: UwbConfiguration::zero(),
-            cs: CsConfiguration::zero(),
-            nan: NanConfiguration::zero(),
-            rssi: Rssi::zero(),
-        }
-    }
-
-    fn read(m: &[u8], places: &[u16; 5]) -> Configuration {
-        Configuration {
-            uwb: fields_at(m, u32::from(places[0])),
-            cs: fields_at(m, u32::from(places[1])),
-            nan: fields_at(m, u32::from(places[2])),
-            rssi: fields_at(m, u32::from(places[3])),
-        }
+    fn of(
+        uwb: UwbConfiguration,
+        cs: CsConfiguration,
+        nan: NanConfiguration,
+        rssi: Rssi,
+    ) -> Configuration {
+        Configuration { uwb, cs, nan, rssi }
     }
 
     fn uwb(&self) -> &UwbConfiguration {
@@ -213,8 +188,8 @@ impl Column for Configuration {
 pub fn refused(refusal: Refusal) -> Reading
     ensures { result ≡ refused (number_of refusal) }
 {
-    let capability = Capability::zero();
-    let configuration = Configuration::zero();
+    let capability = zero();
+    let configuration = zero();
     Reading {
         refusal: u8::from(refusal),
         value: Record {

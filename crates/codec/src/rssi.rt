@@ -1,5 +1,5 @@
 // RSSI: its block, the same in both messages.
-ghost use Rattle.std.specs.Prelude.{◌≡◌, ◌+◌, ◌≤◌, length};
+ghost use Rattle.std.specs.Prelude.{◌≡◌, refl, ◌+◌, ◌≤◌, length};
 ghost use Rattle.codec.specs.Blocks.{rssi_block};
 ghost use Rattle.codec.specs.Records.{to_rssi, of_rssi};
 ghost use Rattle.codec.specs.Inner.Places.{layout_fault};
@@ -20,6 +20,8 @@ impl Fields for Rssi {
     ghost made = { to_rssi };
 
     ghost values = { of_rssi };
+
+    ghost keeps = { λ v. refl };
 
     fn zero() -> Rssi {
         Rssi { address: [0; 6] }

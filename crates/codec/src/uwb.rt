@@ -1,5 +1,5 @@
 // UWB: its two blocks. Channel, preamble index and config ID are kinds of their own, and so are sets of them.
-ghost use Rattle.std.specs.Prelude.{◌≡◌, ◌+◌, ◌≤◌, length, get_or};
+ghost use Rattle.std.specs.Prelude.{◌≡◌, refl, ◌+◌, ◌≤◌, length, get_or};
 ghost use Rattle.codec.specs.Octets.{all_zero};
 ghost use Rattle.codec.specs.Layout.{country, two_letters, spelled, inside, test, write, fault};
 ghost use Rattle.codec.specs.Blocks.{interval, allowed_key_length, uwb_capability, uwb_configuration, uwb_after_key};
@@ -171,6 +171,8 @@ impl Fields for UwbCapability {
 
     ghost values = { of_uwb_capability };
 
+    ghost keeps = { λ v. refl };
+
     fn zero() -> UwbCapability {
         UwbCapability {
             address: [0; 2],
@@ -245,6 +247,8 @@ impl Fields for UwbConfiguration {
     ghost made = { to_uwb_configuration };
 
     ghost values = { of_uwb_configuration };
+
+    ghost keeps = { λ v. refl };
 
     fn zero() -> UwbConfiguration {
         UwbConfiguration {

@@ -38,10 +38,10 @@ pub fn is_zero<C: Column>(c: &C) -> bool
 }
 
 // Whether a Capability Response with these blocks is valid.
-pub fn valid_response(set: u16, c: Capability) -> bool
-    ensures { result ≡ valid (response set c) }
+pub fn valid_response(set: u16, c: &Capability) -> bool
+    ensures { result ≡ valid (response set c.now) }
 {
-    (set < SET_LIMIT) & valid_column(set, &c)
+    (set < SET_LIMIT) & valid_column(set, c)
 }
 
 // Whether a Capability Response with those of these blocks that the set names is valid.

@@ -84,13 +84,7 @@ fn refused(refusal: Refusal) -> Written
 }
 
 // Writes a Capability Response with those of these blocks that the set names, as `write` does.
-pub fn write_capability_response(set: u16, c: Capability, out: &mut [u8]) -> Written
-    ensures { Writes (response set (only set c)) out.old result out.new }
-{
-    write_response(set, &c, out)
-}
-
-fn write_response(set: u16, c: &Capability, out: &mut [u8]) -> Written
+pub fn write_capability_response(set: u16, c: &Capability, out: &mut [u8]) -> Written
     ensures { Writes (response set (only set c.now)) out.old result out.new }
 {
     if !valid_only(set, c) {
@@ -157,7 +151,7 @@ pub fn write(value: Record, out: &mut [u8]) -> Written
         if !(rest & is_zero(&value.configuration)) {
             return refused(Refusal::NotValid);
         }
-        return write_response(value.set, &value.capability, out);
+        return write_capability_response(value.set, &value.capability, out);
     }
     if !is_zero(&value.capability) {
         return refused(Refusal::NotValid);

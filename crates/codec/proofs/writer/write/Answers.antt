@@ -11,7 +11,7 @@ pub returns-then-not-rest-is_zero : goal.returns-then-not-rest-is_zero
 returns-then-not-rest-is_zero c = record { typed = record_typed c.args.value _ c.well_formed.0; writes = rw c.refused.ensures (not_valid_lem c.args.value c.args.out.now (rest_used _ c.if-value-eq-CAPABILITY_RESPONSE.true (rw (c.rest_zero-rest.ensures, c.is_zero.ensures) at c.if-not-rest-is_zero.true))) }
 
 pub returns-then-value-eq-CAPABILITY_RESPONSE : goal.returns-then-value-eq-CAPABILITY_RESPONSE
-returns-then-value-eq-CAPABILITY_RESPONSE c = record { typed = record_typed c.args.value _ c.well_formed.0; writes = as_response c.args.value c.args.out.now c.if-value-eq-CAPABILITY_RESPONSE.true (rw (c.rest_zero-rest.ensures, c.is_zero.ensures) at c.if-not-rest-is_zero.false) c.write_response.ensures }
+returns-then-value-eq-CAPABILITY_RESPONSE c = record { typed = record_typed c.args.value _ c.well_formed.0; writes = as_response c.args.value c.args.out.now c.if-value-eq-CAPABILITY_RESPONSE.true (rw (c.rest_zero-rest.ensures, c.is_zero.ensures) at c.if-not-rest-is_zero.false) c.write_capability_response.ensures }
 
 pub returns-then-not-is_zero : goal.returns-then-not-is_zero
 returns-then-not-is_zero c = record { typed = record_typed c.args.value _ c.well_formed.0; writes = rw c.refused-then-not-is_zero.ensures (not_valid_lem c.args.value c.args.out.now (capability_used _ c.if-value-eq-CAPABILITY_RESPONSE.false (sym c.is_zero-2.ensures ∙ c.if-not-is_zero.true))) }

@@ -4,7 +4,7 @@ use Rattle.codec.specs.Records.{response, only}
 use native.Mathlib.Omega.{arith}
 use mathlib.Core.Path.{sym, ap, ◌∙◌}
 use lib.ListN.{length}
-use Rattle.codec.proofs.writer.write_response.Goals as goal
+use Rattle.codec.proofs.writer.write_capability_response.Goals as goal
 
 pub returns-then-not-valid_only : goal.returns-then-not-valid_only
 returns-then-not-valid_only c = rw c.refused.ensures (not_valid_lem (response c.args.set (only c.args.set c.args.c.now)) c.args.out.now (sym c.valid_only.ensures ∙ c.if-not-valid_only.true))
