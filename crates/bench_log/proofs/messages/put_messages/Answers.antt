@@ -8,7 +8,7 @@ returns-then-id-other c =
     let l = c.args.left.now in
     let r = c.args.right.now in
     let p = rw (c.of_record-heading.ensures.0, c.of_record-heading.ensures.1) at c.put_numbers.ensures in
-    put_ids _ l.message.now l.places.now r.message.now r.places.now (λ e. c.if-id-other.true (c.id-id.ensures ∙ e ∙ sym c.id-other.ensures)) (c.from.ensures ∙ c.id-id.ensures)
+    put_ids _ l.message.now l.places r.message.now r.places (λ e. c.if-id-other.true (c.id-id.ensures ∙ e ∙ sym c.id-other.ensures)) (c.from.ensures ∙ c.id-id.ensures)
     (c.from-then-id-other.ensures ∙ c.id-other.ensures) (p.text, p.limit)
 
 pub put_sections-requires : goal.put_sections-requires
