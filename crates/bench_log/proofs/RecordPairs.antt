@@ -18,11 +18,13 @@ use Rattle.codec.proofs.Laws.{octets_part}
 use Rattle.bench_log.specs.LogRecord.{Held, taken_apart, parts_of, reading_of, direction_of}
 use Rattle.bench_log.specs.Text.{ascii, decimal}
 use Rattle.bench_log.specs.Comparison.{same, Difference, difference, shown, is_same_reading, shown_contents, difference_line, difference_lines, pair_lines, pair_kind}
-use Rattle.bench_log.specs.Inner.Pairs.{direction_difference, head_differences, Sees}
+use Rattle.bench_log.specs.Inner.Pairs.{direction_difference, head_differences, Holds, refusal_in, Sees}
 use Rattle.bench_log.specs.Inner.Differences.{read_differences, MessagesReady, messages_limit}
 use Rattle.bench_log.specs.declared.kinds.Kind.TheVariants.{SameReading, Different}
 use Rattle.bench_log.specs.declared.layout.Parts.{Parts}
+use Rattle.bench_log.specs.declared.found.Found.{Found}
 use Rattle.bench_log.specs.declared.pair.Seen.{Seen}
+use Rattle.std.specs.Prelude.{Result, Ok, Err, IfOk, IfErr}
 use Rattle.bench_log.proofs.Entries.{apart, broken}
 use Rattle.bench_log.proofs.Shown.{shown_from, shown_left, shown_right, shown_ids, shown_messages}
 use Rattle.bench_log.proofs.Differences.{lines_append}
@@ -39,29 +41,46 @@ read_number m = go (parse m)
     go (Ok blocks) = refl
 
 module _ (r : List ℕ) (p : Parts) (e : p ≡ parts_of (taken_apart message_limit r)) where
-  pub sees_broken : (p.refusal ≡ 0 → ⊥) → (end : ℕ) (places : List ℕ) → Sees r (record { direction = 0; refusal = p.refusal; end = end; places = places })
+  pub sees_broken : (p.refusal ≡ 0 → ⊥) → Sees r (record { direction = 0; message = Err p.refusal })
   unfolding reading_of
-  sees_broken z end places =
+  sees_broken z =
       let b = broken message_limit r p e z in
       record {
         direction = sym (ap (λ (q : Checked Held). (parts_of q).direction) b);
         refusal = ap (λ (p : Parts). p.refusal) e ∙ rw b;
-        holds = λ y. absurd (z y);
+        refused = z;
+        holds = tt;
       }
 
-  pub sees_found : {f : ℕ} {places : List ℕ} → p.refusal ≡ 0 → Located (part 4 (4 + p.length - 4) r) f places
-      → Sees r (record { direction = p.direction; refusal = f; end = 4 + p.length; places = places })
-  unfolding reading_of
-  sees_found {f} {places} z l =
-      let a = apart message_limit r p e z in
-      let n : 4 + p.length - 4 ≡ p.length = omega arith in
-      let m = part 4 (4 + p.length - 4) r in
-      let read : and_then (taken_apart message_limit r) (λ h. reading h.message) ≡ reading m = rw (a.holds, n) in
-      record {
-        direction = sym (ap (λ (q : Checked Held). (parts_of q).direction) a.holds);
-        refusal = l.number ∙ sym (read_number m) ∙ ap (λ (c : Checked Record). (answer c).refusal) (sym read);
-        holds = λ y. record { from = omega arith; to = omega (arith, a.fits, a.size); located = subst (λ (f : ℕ). Located m f places) y l; read = read };
-      }
+  module _ (z : p.refusal ≡ 0) {f : ℕ} {places : List ℕ} (l : Located (part 4 (4 + p.length - 4) r) f places) where
+    abbrev m : List ℕ
+    m = part 4 (4 + p.length - 4) r
+
+    to : p.direction ≡ direction_of r
+    to = sym (ap (λ (q : Checked Held). (parts_of q).direction) (apart message_limit r p e z).holds)
+
+    read : reading_of r ≡ reading m
+    unfolding reading_of
+    read = let n : 4 + p.length - 4 ≡ p.length = omega arith in rw ((apart message_limit r p e z).holds, n)
+
+    number : f ≡ (answer (reading_of r)).refusal
+    number = l.number ∙ sym (read_number m) ∙ ap (λ (c : Checked Record). (answer c).refusal) (sym read)
+
+    pub sees_refused : (f ≡ 0 → ⊥) → Sees r (record { direction = p.direction; message = Err f })
+    sees_refused y = record { direction = to; refusal = number; refused = y; holds = tt }
+
+    pub sees_found : (g : Found) → f ≡ 0 → g.message.now ≡ m → g.places ≡ places → Sees r (record { direction = p.direction; message = Ok g })
+    sees_found g y s t = record {
+      direction = to;
+      refusal = sym y ∙ number;
+      refused = tt;
+      holds = record {
+        size = 4 + p.length - 4;
+        message = s;
+        located = rw (s, t) (subst (λ (f : ℕ). Located m f places) y l);
+        read = rw s read;
+      };
+    }
 
 -- ---- what is shown of two
 
@@ -86,37 +105,46 @@ both_accepted dl dr a b =
     (λ n. shown_ids dl dr a b (eqb-false a.id b.id n) ∙ rw n)
 
 module _ {l r : List ℕ} {s t : Seen} (x : Sees l s) (y : Sees r t) where
-  pub shown_heads : ((s.refusal ≡ 0) × (t.refusal ≡ 0) → ⊥) → shown l r ≡ head_differences s.direction t.direction s.refusal t.refusal
+  abbrev heads : List Difference
+  heads = head_differences s.direction t.direction (refusal_in s.message) (refusal_in t.message)
+
+  shown_heads : ((refusal_in s.message ≡ 0) × (refusal_in t.message ≡ 0) → ⊥) → shown l r ≡ heads
   shown_heads n =
       rw (x.direction, y.direction, x.refusal, y.refusal)
       (either_refused (direction_of l) (direction_of r) (reading_of l) (reading_of r) (λ e. n (x.refusal ∙ e.0, y.refusal ∙ e.1)))
 
-  module _ (f : s.refusal ≡ 0) (g : t.refusal ≡ 0) where
-    abbrev ml : List ℕ
-    ml = part 4 (s.end - 4) l
+  pub left_refused : {n : ℕ} → s.message ≡ Err n → shown l r ≡ heads
+  left_refused {n} e = shown_heads (λ z. subst (λ (m : Result Found ℕ). IfErr m (λ n. n ≡ 0 → ⊥)) e x.refused (ap refusal_in (sym e) ∙ z.0))
 
-    abbrev mr : List ℕ
-    mr = part 4 (t.end - 4) r
+  pub right_refused : {n : ℕ} → t.message ≡ Err n → shown l r ≡ heads
+  right_refused {n} e = shown_heads (λ z. subst (λ (m : Result Found ℕ). IfErr m (λ n. n ≡ 0 → ⊥)) e y.refused (ap refusal_in (sym e) ∙ z.1))
 
-    pub messages_ready : {d : List ℕ} {at : ℕ} → Octets l → Octets r → at + messages_limit ≤ length d → MessagesReady ml s.places mr t.places at d
+  module _ {f g : Found} (i : s.message ≡ Ok f) (j : t.message ≡ Ok g) where
+    left : Holds l f
+    left = subst (λ (m : Result Found ℕ). IfOk m (λ f. Holds l f)) i x.holds
+
+    right : Holds r g
+    right = subst (λ (m : Result Found ℕ). IfOk m (λ f. Holds r f)) j y.holds
+
+    pub messages_ready : {d : List ℕ} {at : ℕ} → Octets l → Octets r → at + messages_limit ≤ length d → MessagesReady f.message.now f.places g.message.now g.places at d
     messages_ready o p room = record {
-      left = (x.holds f).located;
-      right = (y.holds g).located;
-      octets = (octets_part 4 (s.end - 4) l o, octets_part 4 (t.end - 4) r p);
+      left = left.located;
+      right = right.located;
+      octets = (rw left.message (octets_part 4 left.size l o), rw right.message (octets_part 4 right.size r p));
       room = room;
     }
 
-    shown_read : shown l r ≡ direction_difference s.direction t.direction ++ read_differences (record_at ml s.places) (record_at mr t.places)
+    shown_read : shown l r ≡ direction_difference s.direction t.direction ++ read_differences (record_at f.message.now f.places) (record_at g.message.now g.places)
     shown_read =
-        rw ((x.holds f).read ∙ read_accepted ml s.places (x.holds f).located, (y.holds g).read ∙ read_accepted mr t.places (y.holds g).located, x.direction, y.direction)
-        (both_accepted (direction_of l) (direction_of r) (record_at ml s.places) (record_at mr t.places))
+        rw (left.read ∙ read_accepted f.message.now f.places left.located, right.read ∙ read_accepted g.message.now g.places right.located, x.direction, y.direction)
+        (both_accepted (direction_of l) (direction_of r) (record_at f.message.now f.places) (record_at g.message.now g.places))
 
-    pub put_read : (n : ℕ) {d e h : List ℕ} {at p q : ℕ} → Put d at (difference_lines n (head_differences s.direction t.direction s.refusal t.refusal)) e p
-        → Put e p (difference_lines n (read_differences (record_at ml s.places) (record_at mr t.places))) h q → Put d at (difference_lines n (shown l r)) h q
+    pub put_read : (n : ℕ) {d e h : List ℕ} {at p q : ℕ} → Put d at (difference_lines n heads) e p
+        → Put e p (difference_lines n (read_differences (record_at f.message.now f.places) (record_at g.message.now g.places))) h q → Put d at (difference_lines n (shown l r)) h q
     unfolding difference
     put_read n a b =
-        let head : head_differences s.direction t.direction s.refusal t.refusal ≡ direction_difference s.direction t.direction = rw (f, g) (append-nil (direction_difference s.direction t.direction)) in
-        rw (shown_read, lines_append n (direction_difference s.direction t.direction) (read_differences (record_at ml s.places) (record_at mr t.places))) (put_then (rw head at a) b)
+        let head : heads ≡ direction_difference s.direction t.direction = rw (i, j) (append-nil (direction_difference s.direction t.direction)) in
+        rw (shown_read, lines_append n (direction_difference s.direction t.direction) (read_differences (record_at f.message.now f.places) (record_at g.message.now g.places))) (put_then (rw head at a) b)
 
 -- ---- what is said of a pair
 

@@ -4,7 +4,7 @@ ghost use Rattle.codec.specs.Octets.{Octets};
 ghost use Rattle.codec.specs.Inner.Puts.{Put};
 ghost use Rattle.bench_log.specs.Text.{decimal};
 ghost use Rattle.bench_log.specs.Comparison.{shown, difference_lines, pair_lines, pair_kind, position_limit};
-ghost use Rattle.bench_log.specs.Inner.Pairs.{Sees, head_differences};
+ghost use Rattle.bench_log.specs.Inner.Pairs.{Sees, refusal_in, head_differences};
 
 use crate::difference::Heading;
 use crate::found::Found;
@@ -15,13 +15,48 @@ use crate::same::same;
 use crate::text::{put_number, put_text};
 use codec::MESSAGE_LIMIT;
 
-// What is seen of a record: its direction and its refusal, and if it is accepted where its message ends and its blocks begin.
+// What is seen of a record: its direction, and its message or the number of its refusal.
 #[derive(Clone, Copy)]
-pub(crate) struct Seen {
+pub(crate) struct Seen<'a> {
     direction: u8,
-    refusal: u8,
-    end: usize,
-    places: [u16; 5],
+    message: Result<Found<'a>, u8>,
+}
+
+impl<'a> Seen<'a> {
+    fn of(octets: &'a [u8]) -> Seen<'a>
+        ensures { Sees octets.now result }
+    {
+        let parts = take_apart(octets, MESSAGE_LIMIT);
+        if parts.refusal != 0 {
+            return Seen {
+                direction: 0,
+                message: Err(parts.refusal),
+            };
+        }
+        let end = 4 + parts.length;
+        let message = &octets[4..end];
+        let found = codec::find(message);
+        if found.fault != 0 {
+            return Seen {
+                direction: parts.direction,
+                message: Err(found.fault),
+            };
+        }
+        Seen {
+            direction: parts.direction,
+            message: Ok(Found::new(message, found.places)),
+        }
+    }
+
+    // The number of the refusal, or 0.
+    fn refusal(&self) -> u8
+        ensures { result ≡ refusal_in self.now.message }
+    {
+        match self.message {
+            Ok(_) => 0,
+            Err(number) => number,
+        }
+    }
 }
 
 // The place after the lines of a pair, and its kind.
@@ -31,33 +66,10 @@ pub(crate) struct Said {
     pub kind: Kind,
 }
 
-fn look_at(octets: &[u8]) -> Seen
-    ensures { Sees octets.now result }
-{
-    let parts = take_apart(octets, MESSAGE_LIMIT);
-    if parts.refusal != 0 {
-        return Seen {
-            direction: 0,
-            refusal: parts.refusal,
-            end: 0,
-            places: [0; 5],
-        };
-    }
-    let end = 4 + parts.length;
-    let found = codec::find(&octets[4..end]);
-    let places = found.places;
-    Seen {
-        direction: parts.direction,
-        refusal: found.fault,
-        end,
-        places,
-    }
-}
-
 // The lines of the directions and the refusal numbers.
 fn put_heads(out: &mut [u8], at: usize, number: u64, left: &Seen, right: &Seen) -> usize
     requires { at + 177 ≤ length out.old }
-    ensures { Put out.old at (difference_lines number (head_differences left.now.direction right.now.direction left.now.refusal right.now.refusal)) out.new result
+    ensures { Put out.old at (difference_lines number (head_differences left.now.direction right.now.direction (refusal_in left.now.message) (refusal_in right.now.message))) out.new result
         × (result ≤ at + 177) }
 {
     let heading = Heading::of_record(number);
@@ -72,8 +84,8 @@ fn put_heads(out: &mut [u8], at: usize, number: u64, left: &Seen, right: &Seen) 
         out,
         next,
         b"refusal number",
-        u64::from(left.refusal),
-        u64::from(right.refusal),
+        u64::from(left.refusal()),
+        u64::from(right.refusal()),
     )
 }
 
@@ -83,18 +95,16 @@ fn put_differences(out: &mut [u8], at: usize, number: u64, left: &[u8], right: &
     ensures { (Octets left.now × Octets right.now)
         × (Put out.old at (difference_lines number (shown left.now right.now)) out.new result × (result ≤ at + 2481)) }
 {
-    let l = look_at(left);
-    let r = look_at(right);
+    let l = Seen::of(left);
+    let r = Seen::of(right);
     let next = put_heads(out, at, number, &l, &r);
-    if l.refusal != 0 {
+    let Ok(x) = &l.message else {
         return next;
-    }
-    if r.refusal != 0 {
+    };
+    let Ok(y) = &r.message else {
         return next;
-    }
-    let x = Found::new(&left[4..l.end], &l.places);
-    let y = Found::new(&right[4..r.end], &r.places);
-    put_messages(out, next, number, &x, &y)
+    };
+    put_messages(out, next, number, x, y)
 }
 
 // A record's number, and words.
