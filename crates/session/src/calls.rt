@@ -21,7 +21,7 @@ pub fn start(profile: Record, replies: u8) -> Started
     ensures { result ≡ started (profile_of profile replies) }
 {
     let response = (profile.id == CAPABILITY_RESPONSE)
-        & codec::valid_response(profile.set, profile.capability)
+        & codec::valid_response(profile.set, &profile.capability)
         & codec::is_zero(&profile.configuration);
     if !(response & Choice::numbered(replies).is_some()) {
         return Started {
@@ -55,7 +55,7 @@ fn give_out(s: &mut Session, wanted: u16, out: &mut [u8]) -> Answer
     ensures { Gives s.old (conclude out.old (give_out on_session s.old.profile (names wanted) s.old)) out.old result s.new out.new }
 {
     let blocks = common(wanted, s.profile.set);
-    let w = codec::write_capability_response(blocks, s.profile.capability, out);
+    let w = codec::write_capability_response(blocks, &s.profile.capability, out);
     s.give(set_if(w.refusal == 0, blocks));
     Answer::after(w, 0, 0)
 }

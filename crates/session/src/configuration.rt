@@ -21,7 +21,7 @@ fn eligible<T: Settings>(profile: &Profile, heard: &Heard, octets: &[u8], barred
     if !named | barred {
         return false;
     }
-    T::at(octets, heard).is_within(&profile.capability)
+    T::at(heard, octets).is_within(&profile.capability)
 }
 
 // Sets what a Configuration sets, which is all that is eligible, and writes message 3 with replies on.

@@ -45,7 +45,7 @@ impl Profile {
     pub(crate) fn is_valid(&self) -> bool
         ensures { result ≡ valid_profile self.now }
     {
-        codec::valid_response(self.set, self.capability) & Choice::numbered(self.replies).is_some()
+        codec::valid_response(self.set, &self.capability) & Choice::numbered(self.replies).is_some()
     }
 
     pub(crate) fn replies_explicitly(&self) -> bool

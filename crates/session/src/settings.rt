@@ -15,6 +15,7 @@ use codec::{
     UwbConfiguration, has,
 };
 
+// What a Configuration says of one technology.
 pub(crate) trait Settings: Copy {
     // The technology's ID.
     const ID: u8;
@@ -30,7 +31,7 @@ pub(crate) trait Settings: Copy {
     fn zero() -> Self
         ensures { result ≡ settings_of (blank configurations) };
 
-    fn at(octets: &[u8], heard: &Heard) -> Self
+    fn at(heard: &Heard, octets: &[u8]) -> Self
         ensures { result ≡ settings_of (settings_at heard.now octets.now) };
 
     fn is_within(&self, capability: &Capability) -> bool
@@ -63,7 +64,7 @@ impl Settings for UwbConfiguration {
         }
     }
 
-    fn at(octets: &[u8], heard: &Heard) -> UwbConfiguration {
+    fn at(heard: &Heard, octets: &[u8]) -> UwbConfiguration {
         codec::fields_at(octets, heard.uwb)
     }
 
@@ -94,12 +95,12 @@ impl Settings for CsConfiguration {
         }
     }
 
-    fn at(octets: &[u8], heard: &Heard) -> CsConfiguration {
+    fn at(heard: &Heard, octets: &[u8]) -> CsConfiguration {
         codec::fields_at(octets, heard.cs)
     }
 
     fn is_within(&self, capability: &Capability) -> bool {
-        has(capability.cs.security_types as u16, self.security_level)
+        has(u16::from(capability.cs.security_types), self.security_level)
     }
 }
 
@@ -121,7 +122,7 @@ impl Settings for NanConfiguration {
         }
     }
 
-    fn at(octets: &[u8], heard: &Heard) -> NanConfiguration {
+    fn at(heard: &Heard, octets: &[u8]) -> NanConfiguration {
         codec::fields_at(octets, heard.nan)
     }
 
@@ -143,7 +144,7 @@ impl Settings for Rssi {
         Rssi { address: [0; 6] }
     }
 
-    fn at(octets: &[u8], heard: &Heard) -> Rssi {
+    fn at(heard: &Heard, octets: &[u8]) -> Rssi {
         codec::fields_at(octets, heard.rssi)
     }
 

@@ -103,7 +103,7 @@ pub(crate) trait State: Copy {
         ensures { self.new ≡ cond (bit set Self.Settings.ID) (state 1 (Self.Settings.settings_of (settings_at heard.now octets.now))) self.old }
     {
         if has(set, Self::Settings::ID) {
-            *self = Self::new(true, Self::Settings::at(octets, heard));
+            *self = Self::new(true, Self::Settings::at(heard, octets));
         }
     }
 

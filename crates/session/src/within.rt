@@ -25,12 +25,13 @@ pub(crate) fn has_preamble_index(indexes: PreambleIndexes, index: PreambleIndex)
     }
 }
 
+// Role 1 has the first bit and role 2 the second.
 pub(crate) fn has_role(roles: u8, role: u8) -> bool
     ensures { result ≡ has_role roles role }
 {
     match role {
-        1 => codec::has(roles as u16, 0),
-        2 => codec::has(roles as u16, 1),
+        1 => codec::has(u16::from(roles), 0),
+        2 => codec::has(u16::from(roles), 1),
         _ => false,
     }
 }
