@@ -87,7 +87,9 @@ pub(crate) fn blocks_fault<C: Column>(m: &[u8], found: &mut [u16; 5]) -> Result<
         return Err(Refusal::SetsDiffer);
     }
     let view = m;
-    walk::<C>(&view, first, set, 0, found)?;
+    let mut outcome = Ok(());
+    walk::<C>(&view, first, set, 0, found, &mut outcome);
+    outcome?;
     end_fault(m, usize::from(found[4]))
 }
 

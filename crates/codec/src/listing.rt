@@ -1,5 +1,5 @@
 // The blocks of a message one by one, for diagnosis.
-ghost use Rattle.std.specs.Prelude.{◌≡◌, ◌+◌, ◌≤◌, length, Some};
+ghost use Rattle.std.specs.Prelude.{◌≡◌, ◌+◌, ◌≤◌, ◌<◌, length, Some};
 ghost use Rattle.codec.specs.Table.{message_limit, message_of};
 ghost use Rattle.codec.specs.Message.{id_of, body, parse};
 ghost use Rattle.codec.specs.Listing.{no_block, nth_block};
@@ -35,17 +35,14 @@ fn no_block() -> Block
     }
 }
 
-// The place of the n-th block from a place on, of as many as are left. The message is behind a second reference, so that the compiler
+// The place of the n-th block from a place on, of more that are left. The message is behind a second reference, so that the compiler
 // makes a loop of the recursion.
-fn nth_place(m: &&[u8], at: usize, left: u32, n: usize) -> Option<usize>
-    requires { Passes m.now.now left at }
-    ensures { NthPlace m.now.now left at n result }
+fn nth_place(m: &&[u8], at: usize, left: u32, n: usize) -> usize
+    requires { Passes m.now.now left at × (n < left) }
+    ensures { NthPlace m.now.now left at n (Some result) }
 {
-    if left == 0 {
-        return None;
-    }
     if n == 0 {
-        return Some(at);
+        return at;
     }
     nth_place(m, next_place(*m, at), left - 1, n - 1)
 }
@@ -77,8 +74,12 @@ fn place_of(m: &[u8], n: usize) -> Option<usize>
     ensures { Lists m.now n result }
 {
     let first = first_place(m)?;
+    let left = u16::count_ones(u16_at(m, 2));
+    if left as usize <= n {
+        return None;
+    }
     let view = m;
-    nth_place(&view, first, u16::count_ones(u16_at(m, 2)), n)
+    Some(nth_place(&view, first, left, n))
 }
 
 // The n-th block, from 0, of a message 1 or 2 that the reader accepts. None past the last block, for other messages and for
