@@ -1,5 +1,6 @@
 -- The blocks that are listed are those that the walk passes over.
 use Prim.Native.Nat.{ℕ, zero, suc, ◌+◌, ◌-◌, ◌≤◌}
+use native.Mathlib.Omega.{arith}
 use native.Mathlib.Numerals.{sub-one}
 use native.Mathlib.Omega.{arith}
 use mathlib.Core.Path.{◌≡◌, refl, sym, ap, ◌∙◌}
@@ -63,11 +64,12 @@ module _ (m : List ℕ) (at : ℕ) where
             ∙ ap (λ (w : Walked). nth_from w.blocks at (suc n)) e;
       }
 
--- none after all that are left
+-- past the last block none is listed
 pub lists_past : (m : List ℕ) (left at n : ℕ) → left ≤ n → NthPlace m left at n None
 lists_past m zero at n l = lists_none m at zero n refl
 lists_past m (suc left) at n l =
-    lists_next m at (suc left) (λ z. omega (arith, z)) n None (λ z. omega (arith, z, l)) (rw (sub-one (suc left)) (lists_past m left (place_after m at) (n - 1) (omega (arith, l))))
+    let one : suc left - 1 ≡ left = omega arith in
+    lists_next m at (suc left) (λ e. omega (arith, e)) n None (λ e. omega (arith, e)) (rw one (lists_past m left (place_after m at) (n - 1) (omega arith)))
 
 -- ---- a message
 

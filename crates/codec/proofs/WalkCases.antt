@@ -110,24 +110,24 @@ module _ (layouts : ℕ → Layout) (set₀ : ℕ) (m : List ℕ) (came : ℕ �
 
 -- ---- one turn of the walk, by the number with a bit for each ID met
 
-module _ (m : List ℕ) (at met : ℕ) where
+module _ (set₀ : ℕ) (m : List ℕ) (at met : ℕ) where
   -- what the head of a block without a fault says
   pub record Headed : Type 0 where
     pub two : at + 2 ≤ length m
-    pub comes : may_come (set_of m) m (bit met) at ≡ true
+    pub comes : may_come set₀ m (bit met) at ≡ true
 
-  pub headed : Ok tt ≡ id_fault (set_of m) met m at → Headed
+  pub headed : Ok tt ≡ id_fault set₀ met m at → Headed
   headed e =
       demanded (leb (at + 2) (length m)) EndsEarly _ tt (sym e) λ p b.
-      demanded (may_come (set_of m) m (bit met) at) WrongBlock _ tt b λ q d.
+      demanded (may_come set₀ m (bit met) at) WrongBlock _ tt b λ q d.
       record { two = leb-true _ _ p; comes = q }
 
   module _ (k : Column) where
-    pub head_stop : {x : Refusal} → Err x ≡ id_fault (set_of m) met m at → Err x ≡ block_fault (layouts k) (set_of m) m (bit met) at
+    pub head_stop : {x : Refusal} → Err x ≡ id_fault set₀ met m at → Err x ≡ block_fault (layouts k) set₀ m (bit met) at
     unfolding block_fault
-    head_stop e = demand_stop (leb (at + 2) (length m)) EndsEarly _ _ (demand_stop (may_come (set_of m) m (bit met) at) WrongBlock _ _ not_both) e
+    head_stop e = demand_stop (leb (at + 2) (length m)) EndsEarly _ _ (demand_stop (may_come set₀ m (bit met) at) WrongBlock _ _ not_both) e
 
-    pub head_next : Headed → {r : Checked (Unit {0})} → r ≡ fields_fault (layouts k) m at → r ≡ block_fault (layouts k) (set_of m) m (bit met) at
+    pub head_next : Headed → {r : Checked (Unit {0})} → r ≡ fields_fault (layouts k) m at → r ≡ block_fault (layouts k) set₀ m (bit met) at
     unfolding block_fault
     head_next d e = rw (le-leb (at + 2) (length m) d.two, d.comes) e
 

@@ -12,10 +12,10 @@ use Rattle.codec.specs.Technology.{bit}
 use Rattle.codec.specs.Blocks.{Column, layouts}
 use Rattle.codec.specs.Message.{set_of, place_after, also, block_fault}
 use Rattle.codec.specs.Inner.MetIds.{Met, blocks_left}
-use Rattle.codec.specs.Inner.Places.{fields_fault, id_fault, note, FindsLeft}
+use Rattle.codec.specs.Inner.Places.{note, FindsLeft}
 use Rattle.codec.proofs.Bits.{bit_under}
 use Rattle.codec.proofs.Outcomes.{and_true_lem}
-use Rattle.codec.proofs.WalkCases.{fields_whole, Headed, headed, head_stop, head_next, turn_none, turn_stop, turn_next}
+use Rattle.codec.proofs.WalkCases.{Sound, sound, turn_none, turn_stop, turn_next}
 use Rattle.codec.proofs.MetIds.{met_left, met_all, met_fewer, met_next}
 
 module _ (k : Column) (m : List ℕ) (at unset met : ℕ) (s : unset ≡ set_of m) (h : Met k m at met) (inside : at ≤ length m) (tall : unset < 65536) (short : met < 65536) where
@@ -36,13 +36,15 @@ module _ (k : Column) (m : List ℕ) (at unset met : ℕ) (s : unset ≡ set_of 
       some : blocks_left m met ≡ 0 → ⊥
       some z = n (left ∙ z)
 
-      -- the head of the block
-      pub stops_at_head : {x : Refusal} {found : List ℕ} → Err x ≡ id_fault unset met m at → length found ≡ 5 → FindsLeft k m at met found (Err x) found
-      stops_at_head e size = turn_stop _ _ _ _ _ all some (head_stop m at met k (rw s at e)) size
+      pub stops : {x : Refusal} {found : List ℕ} → Err x ≡ block_fault (layouts k) unset m (bit met) at → length found ≡ 5 → FindsLeft k m at met found (Err x) found
+      stops e size = turn_stop _ _ _ _ _ all some (rw s at e) size
 
-      module _ (e : Ok tt ≡ id_fault unset met m at) where
-        here : Headed m at met
-        here = headed _ _ _ (rw s at e)
+      module _ (e : Ok tt ≡ block_fault (layouts k) unset m (bit met) at) where
+        whole : block_fault (layouts k) (set_of m) m (bit met) at ≡ Ok tt
+        whole = sym (rw s at e)
+
+        here : Sound (layouts k) (set_of m) m (bit met) at
+        here = sound (layouts k) (set_of m) m (bit met) at whole
 
         pub two : at + 2 ≤ length m
         two = here.two
@@ -50,26 +52,19 @@ module _ (k : Column) (m : List ℕ) (at unset met : ℕ) (s : unset ≡ set_of 
         pub under_16 : get_or m at 0 < 16
         under_16 = bit_under 16 _ small _ (and_true_lem _ _ here.comes).0
 
-        -- then the whole block
-        pub stops_at_block : {x : Refusal} {found : List ℕ} → Err x ≡ fields_fault (layouts k) m at → length found ≡ 5 → FindsLeft k m at met found (Err x) found
-        stops_at_block b size = turn_stop _ _ _ _ _ all some (head_next _ _ _ k here b) size
-
         -- and the blocks after it
-        module _ (b : Ok tt ≡ fields_fault (layouts k) m at) {more : ℕ} (r : more < 65536) (o : (id : ℕ) → bit more id ≡ also (get_or m at 0) (bit met) id) where
-          sound : block_fault (layouts k) (set_of m) m (bit met) at ≡ Ok tt
-          sound = sym (head_next _ _ _ k here b)
-
+        module _ {more : ℕ} (r : more < 65536) (o : (id : ℕ) → bit more id ≡ also (get_or m at 0) (bit met) id) where
           fewer : blocks_left m more ≡ blocks_left m met - 1
-          fewer = met_fewer _ _ h inside small short sound r o
+          fewer = met_fewer _ _ h inside small short whole r o
 
           pub less : ones unset - ones more < ones unset - ones met
           less = rw s (omega (arith, pos_of_ne-zero some, fewer))
 
           pub next_inside : place_after m at ≤ length m
-          next_inside = fields_whole (layouts k (get_or m at 0)) m at b
+          next_inside = here.whole
 
           pub next_met : Met k m (place_after m at) more
-          next_met = met_next _ _ h inside small short sound r o
+          next_met = met_next _ _ h inside small short whole r o
 
           pub goes_on : {found : List ℕ} {q : Checked (Unit {0})} {after : List ℕ} → FindsLeft k m (place_after m at) more (note (get_or m at 0) at found) q after → FindsLeft k m at met found q after
-          goes_on w = turn_next _ _ _ _ _ all some sound o fewer w
+          goes_on w = turn_next _ _ _ _ _ all some whole o fewer w

@@ -87,9 +87,9 @@ pub(crate) fn blocks_fault<C: Column>(m: &[u8], found: &mut [u16; 5]) -> Result<
         return Err(Refusal::SetsDiffer);
     }
     let view = m;
-    let mut verdict = Ok(());
-    walk::<C>(&view, first, set, 0, found, &mut verdict);
-    verdict?;
+    let mut outcome = Ok(());
+    walk::<C>(&view, first, set, 0, found, &mut outcome);
+    outcome?;
     end_fault(m, usize::from(found[4]))
 }
 

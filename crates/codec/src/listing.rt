@@ -1,5 +1,5 @@
 // The blocks of a message one by one, for diagnosis.
-ghost use Rattle.std.specs.Prelude.{◌≡◌, ◌+◌, ◌<◌, ◌≤◌, length, Some};
+ghost use Rattle.std.specs.Prelude.{◌≡◌, ◌+◌, ◌≤◌, ◌<◌, length, Some};
 ghost use Rattle.codec.specs.Table.{message_limit, message_of};
 ghost use Rattle.codec.specs.Message.{id_of, body, parse};
 ghost use Rattle.codec.specs.Listing.{no_block, nth_block};
@@ -35,10 +35,10 @@ fn no_block() -> Block
     }
 }
 
-// The place of the n-th block from a place on, of more blocks that are left. The message is behind a second reference, and the result is
-// one number, so that the compiler makes a loop of the recursion.
-fn nth_place(m: &&[u8], at: usize, left: usize, n: usize) -> usize
-    requires { (n < left) × Passes m.now.now left at }
+// The place of the n-th block from a place on, of more that are left. The message is behind a second reference, so that the compiler
+// makes a loop of the recursion.
+fn nth_place(m: &&[u8], at: usize, left: u32, n: usize) -> usize
+    requires { Passes m.now.now left at × (n < left) }
     ensures { NthPlace m.now.now left at n (Some result) }
 {
     if n == 0 {
@@ -74,8 +74,8 @@ fn place_of(m: &[u8], n: usize) -> Option<usize>
     ensures { Lists m.now n result }
 {
     let first = first_place(m)?;
-    let left = u16::count_ones(u16_at(m, 2)) as usize;
-    if left <= n {
+    let left = u16::count_ones(u16_at(m, 2));
+    if left as usize <= n {
         return None;
     }
     let view = m;

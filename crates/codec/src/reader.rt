@@ -94,8 +94,9 @@ fn read_at(message: &[u8], places: &[u16; 5]) -> Reading
 pub fn read(message: &[u8]) -> Reading
     ensures { Reads message.now result }
 {
-    match find(message) {
-        Err(refusal) => refused(refusal),
-        Ok(places) => read_at(message, &places),
-    }
+    let places = match find(message) {
+        Ok(places) => places,
+        Err(refusal) => return refused(refusal),
+    };
+    read_at(message, &places)
 }

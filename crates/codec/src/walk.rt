@@ -1,7 +1,9 @@
 // The walk over the blocks of a message, for any column of blocks. It keeps numbers only.
 ghost use Rattle.std.specs.Prelude.{◌≡◌, ◌+◌, ◌≤◌, length, get_or};
+ghost use Rattle.codec.specs.Technology.{bit};
+ghost use Rattle.codec.specs.Blocks.{layouts};
 ghost use Rattle.codec.specs.Table.{message_limit};
-ghost use Rattle.codec.specs.Message.{set_of, place_after};
+ghost use Rattle.codec.specs.Message.{set_of, place_after, block_fault};
 ghost use Rattle.codec.specs.Inner.MetIds.{Met};
 ghost use Rattle.codec.specs.Inner.Places.{id_fault, note, FindsLeft};
 
@@ -40,9 +42,18 @@ fn pass(m: &[u8], at: usize, found: &mut [u16; 5]) -> usize
     next
 }
 
-// The first fault of the blocks that are left, from a place on. For none, `found` has the places of the known technologies' blocks and
-// the place after the last block. Of the IDs it keeps one number, `met`, with a bit for each ID met; as many blocks are left as the set
-// has other bits. The message is behind a second reference, and the verdict is left in place of being returned, so that the compiler
+// The first fault of the block at a place, of a message with this set, after blocks whose IDs were met.
+fn turn_fault<C: Column>(m: &[u8], at: usize, set: u16, met: u16) -> Result<(), Refusal>
+    requires { at ≤ length m.now }
+    ensures { result ≡ block_fault (layouts C.column) set m.now (bit met) at }
+{
+    id_fault(m, at, set, met)?;
+    C::fault(m, at)
+}
+
+// Puts into `outcome` the first fault of the blocks that are left, from a place on. For none, `found` has the places of the known
+// technologies' blocks and the place after the last block. Of the IDs it keeps one number, `met`, with a bit for each ID met; as many
+// blocks are left as the set has other bits. The message is behind a second reference and nothing is returned, so that the compiler
 // makes a loop of the recursion.
 pub(crate) fn walk<C: Column>(
     m: &&[u8],
@@ -50,26 +61,23 @@ pub(crate) fn walk<C: Column>(
     set: u16,
     met: u16,
     found: &mut [u16; 5],
-    verdict: &mut Result<(), Refusal>,
+    outcome: &mut Result<(), Refusal>,
 )
     requires { (length m.now.now ≤ message_limit) × (at ≤ length m.now.now) × (length found.old ≡ 5) × (set ≡ set_of m.now.now) × Met C.column m.now.now at met }
-    ensures { FindsLeft C.column m.now.now at met found.old verdict.new found.new }
+    ensures { FindsLeft C.column m.now.now at met found.old outcome.new found.new }
 {
     let left = u32::count_ones(unmet(set, met));
     if left == 0 {
         found[4] = at as u16;
-        *verdict = Ok(());
+        *outcome = Ok(());
         return;
     }
-    if let Err(refusal) = id_fault(*m, at, set, met) {
-        *verdict = Err(refusal);
-        return;
+    match turn_fault::<C>(*m, at, set, met) {
+        Err(refusal) => *outcome = Err(refusal),
+        Ok(()) => {
+            let more = also_met(met, m[at]);
+            let next = pass(*m, at, found);
+            walk::<C>(m, next, set, more, found, outcome)
+        }
     }
-    if let Err(refusal) = C::fault(*m, at) {
-        *verdict = Err(refusal);
-        return;
-    }
-    let more = also_met(met, m[at]);
-    let next = pass(*m, at, found);
-    walk::<C>(m, next, set, more, found, verdict);
 }

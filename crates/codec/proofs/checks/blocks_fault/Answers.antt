@@ -27,16 +27,16 @@ returns-then-set-u16_at g c =
 pub walk-requires : goal.walk-requires
 walk-requires g c = (c.requires.1, c.if-m-first.false, c.requires.3, c.u16_at-set.ensures, rw c.blocks_at-first.ensures (met_none g.C.Column.column _))
 
-pub returns-in_err-verdict : goal.returns-in_err-verdict
-returns-in_err-verdict g c =
+pub returns-in_err-outcome : goal.returns-in_err-outcome
+returns-in_err-outcome g c =
     rw (raised _ c.from_residual.ensures.1)
     (body_stop _ (cc) _ (ap row c.requires.2) (rw c.blocks_at-first.ensures at c.if-m-first.false)
     (sets_one g.C.Column.column _ (sym c.u16_at-set.ensures ∙ c.if-set-u16_at.false ∙ (rw c.blocks_at-first.ensures at c.u16_at.ensures)))
-    g.C.Column.column (column_of g.C.Column.column) (rw c.blocks_at-first.ensures at c.walk.ensures) c.in_err-verdict.was)
+    g.C.Column.column (column_of g.C.Column.column) (rw c.blocks_at-first.ensures at c.walk.ensures) c.in_err-outcome.was)
 
 pub returns : goal.returns
 returns g c =
     body_end _ (cc) _ (ap row c.requires.2) (rw c.blocks_at-first.ensures at c.if-m-first.false)
     (sets_one g.C.Column.column _ (sym c.u16_at-set.ensures ∙ c.if-set-u16_at.false ∙ (rw c.blocks_at-first.ensures at c.u16_at.ensures)))
-    g.C.Column.column (column_of g.C.Column.column) (rw c.blocks_at-first.ensures at c.walk.ensures) c.in_ok-verdict.was
+    g.C.Column.column (column_of g.C.Column.column) (rw c.blocks_at-first.ensures at c.walk.ensures) c.in_ok-outcome.was
     (rw c.from.ensures at c.end_fault.ensures)
