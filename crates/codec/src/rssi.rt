@@ -36,8 +36,8 @@ impl Fields for Rssi {
         Rssi { address: [0; 6] }
     }
 
-    fn has_room(b: &[u8]) -> bool {
-        8 <= b.len()
+    fn has_room(m: &[u8], at: u32) -> bool {
+        at as usize + 8 <= m.len()
     }
 
     fn read(b: &[u8]) -> Rssi {
