@@ -5,7 +5,6 @@ use Rattle.codec.specs.Blocks.{configurations}
 use Rattle.codec.specs.Table.{row}
 use borrow.Author.Tests.{eq-eqb, ne_eqb}
 use mathlib.Core.Path.{refl, sym, ap, ◌∙◌}
-use native.Mathlib.Omega.{arith}
 use Rattle.codec.proofs.checks.configuration_fault.Goals as goal
 
 pub returns-then-not-readable : goal.returns-then-not-readable

@@ -4,7 +4,6 @@ use Rattle.codec.proofs.MetIds.{met_none}
 use Rattle.codec.specs.Blocks.{capabilities}
 use Rattle.codec.specs.Table.{row}
 use mathlib.Core.Path.{refl, ap}
-use native.Mathlib.Omega.{arith}
 use Rattle.codec.proofs.checks.response_fault.Goals as goal
 
 pub returns-then-not-readable : goal.returns-then-not-readable
