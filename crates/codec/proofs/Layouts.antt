@@ -108,6 +108,10 @@ module _ (L : Layout) (m : List ℕ) (at : ℕ) where
   pub fields_there : Roomy L 2 (drop at m) → fields_at L m at ≡ value L 2 (drop at m)
   fields_there h = rw (roomy_is L 2 (drop at m) h)
 
+  -- a place with room lies in the message
+  pub roomy_place : roomy L 2 (drop at m) ≡ true → at ≤ length m
+  roomy_place e = omega (arith, roomy_from L 2 (drop at m) (is_roomy L 2 (drop at m) e), length-drop at m)
+
   pub no_fields : (Roomy L 2 (drop at m) → ⊥) → fields_at L m at ≡ zeroes L
   no_fields n = by_bool (roomy L 2 (drop at m)) (λ y. absurd (n (is_roomy L 2 (drop at m) y))) (λ e. rw e)
 

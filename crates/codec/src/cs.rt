@@ -47,8 +47,8 @@ impl Fields for CsCapability {
         Ok(())
     }
 
-    fn has_room(b: &[u8]) -> bool {
-        9 <= b.len()
+    fn has_room(m: &[u8], at: u32) -> bool {
+        at as usize + 9 <= m.len()
     }
 
     fn read(b: &[u8]) -> CsCapability {
@@ -104,8 +104,8 @@ impl Fields for CsConfiguration {
         Ok(())
     }
 
-    fn has_room(b: &[u8]) -> bool {
-        9 <= b.len()
+    fn has_room(m: &[u8], at: u32) -> bool {
+        at as usize + 9 <= m.len()
     }
 
     fn read(b: &[u8]) -> CsConfiguration {

@@ -1,5 +1,5 @@
 // The fields of a block: what the struct that holds them does itself, by the layout that 01's table gives the block.
-ghost use Rattle.std.specs.Prelude.{◌≡◌, ◌&&◌, ◌+◌, ◌≤◌, length};
+ghost use Rattle.std.specs.Prelude.{◌≡◌, ◌&&◌, ◌+◌, ◌≤◌, length, drop};
 ghost use Rattle.codec.specs.Layout.{Layout, Values, zeroes, value, write, least, fault, allowed, cleared, zeroed};
 ghost use Rattle.codec.specs.Inner.Places.{roomy, Roomy};
 ghost use Rattle.codec.specs.Inner.Puts.{Put, Held};
@@ -26,9 +26,9 @@ pub trait Fields: Copy {
         requires { least layout 2 ≤ length b.now }
         ensures { result ≡ fault layout 2 b.now };
 
-    // Whether a block's octets reach past its last field, and what is counted fits its array.
-    fn has_room(b: &[u8]) -> bool
-        ensures { result ≡ roomy layout 2 b.now };
+    // Whether a message reaches past the last field of a block at this place, and what is counted fits its array.
+    fn has_room(m: &[u8], at: u32) -> bool
+        ensures { result ≡ roomy layout 2 (drop at m.now) };
 
     // The fields in the octets of a block.
     fn read(b: &[u8]) -> Self

@@ -56,8 +56,8 @@ impl Fields for NanCapability {
         Ok(())
     }
 
-    fn has_room(b: &[u8]) -> bool {
-        6 <= b.len()
+    fn has_room(m: &[u8], at: u32) -> bool {
+        at as usize + 6 <= m.len()
     }
 
     fn read(b: &[u8]) -> NanCapability {
@@ -130,12 +130,13 @@ impl Fields for NanConfiguration {
         Ok(())
     }
 
-    fn has_room(b: &[u8]) -> bool {
-        if b.len() < 5 {
+    fn has_room(m: &[u8], at: u32) -> bool {
+        let i = at as usize;
+        if m.len() < i + 5 {
             return false;
         }
-        let n = b[2];
-        (n <= 64) & (5 + n as usize <= b.len())
+        let n = m[i + 2] as usize;
+        (n <= 64) & (i + (5 + n) <= m.len())
     }
 
     fn read(b: &[u8]) -> NanConfiguration {

@@ -35,8 +35,8 @@ impl Fields for Rssi {
         Ok(())
     }
 
-    fn has_room(b: &[u8]) -> bool {
-        8 <= b.len()
+    fn has_room(m: &[u8], at: u32) -> bool {
+        at as usize + 8 <= m.len()
     }
 
     fn read(b: &[u8]) -> Rssi {

@@ -199,8 +199,8 @@ impl Fields for UwbCapability {
         Ok(())
     }
 
-    fn has_room(b: &[u8]) -> bool {
-        20 <= b.len()
+    fn has_room(m: &[u8], at: u32) -> bool {
+        at as usize + 20 <= m.len()
     }
 
     fn read(b: &[u8]) -> UwbCapability {
@@ -288,12 +288,13 @@ impl Fields for UwbConfiguration {
         after_key_fault(b, country)
     }
 
-    fn has_room(b: &[u8]) -> bool {
-        if b.len() < 19 {
+    fn has_room(m: &[u8], at: u32) -> bool {
+        let i = at as usize;
+        if m.len() < i + 19 {
             return false;
         }
-        let k = b[14];
-        (k <= 32) & (19 + k as usize <= b.len())
+        let k = m[i + 14] as usize;
+        (k <= 32) & (i + (19 + k) <= m.len())
     }
 
     fn read(b: &[u8]) -> UwbConfiguration {
