@@ -9,9 +9,6 @@ u16_at-left-requires c = set_room _ c.in_ok-first.ensures
 pub returns-then-left-n : goal.returns-then-left-n
 returns-then-left-n c = lists_message _ c.in_ok-first.ensures c.args.n _ (lists_past c.args.m.now (ones (set_of c.args.m.now)) _ c.args.n (rw c.u16_at-left.ensures at c.if-left-n.true))
 
-pub returns-then-left-n : goal.returns-then-left-n
-returns-then-left-n c = lists_message _ c.in_ok-first.ensures _ _ (lists_past _ _ _ _ (rw c.u16_at.ensures at c.if-left-n.true))
-
 pub nth_place-requires : goal.nth_place-requires
 nth_place-requires c = (rw c.u16_at-left.ensures (passes_all _ c.in_ok-first.ensures), c.if-left-n.false)
 
