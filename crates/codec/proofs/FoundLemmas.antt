@@ -9,7 +9,7 @@ use lib.Dec.{leb, ltb, eqb}
 use lib.ListN.{length, get_or, set, drop, get_or-replicate, length-set, length-drop, take-append-drop}
 use lib.Seq.{get_or-set_same, get_or-set_other}
 use borrow.Author.Tests.{eqb-true, eqb-false, eq-eqb, ne_eqb, lt-ltb, not-true, leb-true}
-use Rattle.codec.specs.Refusal.{Refusal, Checked, Err, Ok, and_then, TooLong, EndsEarly, ReservedId, WrongVersion, SetsDiffer}
+use Rattle.codec.specs.Refusal.{Refusal, Err, Ok, TooLong, EndsEarly, ReservedId, WrongVersion, SetsDiffer}
 use Rattle.codec.specs.Technology.{Technology, technology_id, bit, known, names}
 use Rattle.codec.specs.Layout.{Layout, zeroes, value}
 use Rattle.codec.specs.Blocks.{Column, capabilities, configurations, cell, layouts}

@@ -3,7 +3,7 @@ use Prim.Native.Nat.{ℕ}
 use mathlib.Core.Path.{◌≡◌, refl}
 use mathlib.Core.List.{List}
 use lib.ListN.{get_or}
-use Rattle.codec.specs.Refusal.{Refusal, Checked, Err, Ok}
+use Rattle.codec.specs.Refusal.{Refusal, Err, Ok}
 use Rattle.codec.specs.Technology.{known}
 use Rattle.codec.specs.Blocks.{configurations}
 use Rattle.codec.specs.Table.{message_of}

@@ -1,7 +1,7 @@
 use Rattle.codec.specs.Table.{Row}
 use Rattle.codec.specs.Message.{id_of, body, reading}
 use Rattle.codec.specs.Inner.Places.{verdict, head_fault, no_places, carries_blocks, Judged, Placed}
-use Rattle.codec.specs.Refusal.{Refusal, Checked, Err, Ok}
+use Rattle.codec.specs.Refusal.{Refusal, Err, Ok}
 use Rattle.codec.proofs.Outcomes.{raised, verdict_refused}
 use Rattle.codec.proofs.MessageCases.{judged_alone, judged_as, head_stop, opened}
 use Rattle.codec.proofs.Rows.{other_alone}
