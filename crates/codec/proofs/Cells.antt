@@ -1,10 +1,10 @@
 -- The cells of the table: a law of each layout is a law of each cell, and a record keeps the fields of every cell.
-use Prim.Native.Nat.{ℕ, ◌+◌, ◌≤◌, ◌<◌}
+use Prim.Native.Nat.{ℕ, ◌≤◌, ◌<◌}
 use native.Mathlib.Omega.{arith}
 use mathlib.Core.Path.{◌≡◌, refl, sym, ap, ◌∙◌, fun_ext}
 use mathlib.Core.Bool.{true}
 use mathlib.Core.List.{List, []}
-use lib.ListN.{length, get_or}
+use lib.ListN.{get_or}
 use borrow.Author.Tests.{ne_eqb}
 use Rattle.codec.specs.Refusal.{Checked}
 use Rattle.codec.specs.Inner.Places.{size_fault, layout_fault, fields_fault}

@@ -1,4 +1,4 @@
--- The cases of one block, and of one turn of the walk.
+-- The cases of one turn of the walk.
 use Prim.Native.Nat.{ℕ, zero, suc, ◌+◌, ◌-◌, ◌≤◌, ◌<◌}
 use native.Mathlib.Omega.{arith}
 use native.Mathlib.Numerals.{sub-one}
@@ -16,41 +16,10 @@ use Rattle.codec.specs.Technology.{bit}
 use Rattle.codec.specs.Blocks.{Column, layouts}
 use Rattle.codec.specs.Message.{set_of, block_at, place_after, also, block_fault, Walked, prepend, walk}
 use Rattle.codec.specs.Inner.MetIds.{blocks_left}
-use Rattle.codec.specs.Inner.Places.{size_fault, layout_fault, fields_fault, id_fault, note, noted, Finds, FindsLeft}
+use Rattle.codec.specs.Inner.Places.{fields_fault, id_fault, note, noted, Finds, FindsLeft}
 use Rattle.codec.proofs.Laws.{part_length}
 use Rattle.codec.proofs.Outcomes.{not_both, demanded, demand_stop}
 use Rattle.codec.proofs.Layouts.{least_from}
-
--- ---- a block's size, and then its fields by a layout
-
-module _ (L : Layout) (m : List ℕ) (at : ℕ) where
-  abbrev enough : Bool
-  enough = leb (least L 2) (get_or m (at + 1) 0)
-
-  abbrev whole : Bool
-  whole = leb (at + get_or m (at + 1) 0) (length m)
-
-  pub size_stop : {x : Refusal} → Err x ≡ size_fault (least L 2) m at → Err x ≡ layout_fault L m at
-  size_stop e = demand_stop enough BlockTooSmall _ _ (demand_stop whole EndsEarly _ _ not_both) e
-
-  -- what a size without a fault says
-  module _ (e : Ok tt ≡ size_fault (least L 2) m at) where
-    hold : (enough ≡ true) × (whole ≡ true)
-    hold = demanded enough BlockTooSmall _ tt (sym e) λ p b. demanded whole EndsEarly _ tt b λ q d. (p, q)
-
-    pub size_whole : at + get_or m (at + 1) 0 ≤ length m
-    size_whole = leb-true _ _ hold.1
-
-    pub size_enough : {n : ℕ} → n ≡ get_or m (at + 1) 0 → least L 2 ≤ n
-    size_enough q = rw q (leb-true _ _ hold.0)
-
-    pub size_next : {r : Checked (Unit {0})} → r ≡ fault L 2 (block_at m at) → r ≡ layout_fault L m at
-    size_next q = rw (hold.0, hold.1) q
-
-  pub fields_whole : Ok tt ≡ layout_fault L m at → at + get_or m (at + 1) 0 ≤ length m
-  fields_whole e =
-      demanded enough BlockTooSmall _ tt (sym e) λ p b.
-      demanded whole EndsEarly _ tt b λ q d. leb-true _ _ q
 
 -- ---- one turn of the walk
 

@@ -1,9 +1,7 @@
 // CS, channel sounding: its two blocks.
-ghost use Rattle.std.specs.Prelude.{◌≡◌, refl, ◌+◌, ◌≤◌, length};
-ghost use Rattle.codec.specs.Layout.{fault};
+ghost use Rattle.std.specs.Prelude.{refl};
 ghost use Rattle.codec.specs.Blocks.{cs_capability, cs_configuration};
 ghost use Rattle.codec.specs.Records.{to_cs_capability, to_cs_configuration, of_cs_capability, of_cs_configuration};
-ghost use Rattle.codec.specs.Inner.Places.{layout_fault};
 
 use crate::fields::Fields;
 use crate::octets::{all_zero, inside, octets_at, put, put_octets};

@@ -1,9 +1,7 @@
 // Wi-Fi NAN RTT: its two blocks.
-ghost use Rattle.std.specs.Prelude.{◌≡◌, refl, ◌+◌, ◌≤◌, length};
-ghost use Rattle.codec.specs.Layout.{fault};
+ghost use Rattle.std.specs.Prelude.{refl};
 ghost use Rattle.codec.specs.Blocks.{nan_capability, nan_configuration};
 ghost use Rattle.codec.specs.Records.{to_nan_capability, to_nan_configuration, of_nan_capability, of_nan_configuration};
-ghost use Rattle.codec.specs.Inner.Places.{layout_fault};
 
 use crate::fields::Fields;
 use crate::octets::{all_zero, inside, padded_at, put, put_first, zero_from};

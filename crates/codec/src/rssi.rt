@@ -1,8 +1,7 @@
 // RSSI: its block, the same in both messages.
-ghost use Rattle.std.specs.Prelude.{◌≡◌, refl, ◌+◌, ◌≤◌, length};
+ghost use Rattle.std.specs.Prelude.{refl};
 ghost use Rattle.codec.specs.Blocks.{rssi_block};
 ghost use Rattle.codec.specs.Records.{to_rssi, of_rssi};
-ghost use Rattle.codec.specs.Inner.Places.{layout_fault};
 
 use crate::fields::Fields;
 use crate::octets::{all_zero, octets_at, put_octets};

@@ -5,7 +5,6 @@ ghost use Rattle.codec.specs.Layout.{country, two_letters, spelled, inside, test
 ghost use Rattle.codec.specs.Blocks.{interval, allowed_key_length, uwb_capability, uwb_configuration, uwb_after_key};
 ghost use Rattle.codec.specs.Records.{to_uwb_capability, to_uwb_configuration, of_uwb_capability, of_uwb_configuration};
 ghost use Rattle.codec.specs.Inner.Puts.{Put, set_octets, before_key, after_key};
-ghost use Rattle.codec.specs.Inner.Places.{layout_fault};
 
 use crate::fields::Fields;
 use crate::octets::{

@@ -3,7 +3,7 @@ use Rattle.codec.proofs.Outcomes.{raised}
 use Rattle.codec.proofs.MetIds.{met_none}
 use Rattle.codec.proofs.Rows.{column_of, room_after, sets_one, sets_two}
 use Rattle.codec.specs.Table.{row}
-use mathlib.Core.Path.{refl, sym, ap, ◌∙◌}
+use mathlib.Core.Path.{sym, ap, ◌∙◌}
 use native.Mathlib.Omega.{arith}
 use Rattle.codec.proofs.checks.blocks_fault.Goals as goal
 
