@@ -1,27 +1,28 @@
 -- What is seen of a log record, and what is shown of two.
-use Rattle.std.proofs.Common.{◌≡◌, ℕ, ◌+◌, ◌-◌, ◌≤◌, true, false, eqb, List, [], ◌∷◌, ◌++◌, map, length, sym, refl, ap, ◌∙◌, subst, append-nil, arith, length-append, eqb-true}
+use Rattle.std.proofs.Common.{◌≡◌, ℕ, ◌+◌, ◌-◌, ◌≤◌, true, false, eqb, List, [], ◌∷◌, ◌++◌, map, length, refl, ◌∙◌, append-nil, arith, length-append, eqb-true}
 use mathlib.Core.List.{flatten}
 use borrow.Author.Tests.{eqb-false}
 use Rattle.std.specs.Prelude.{Err, Ok}
-use Rattle.codec.specs.Refusal.{Checked, and_then}
+use Rattle.codec.specs.Refusal.{Checked, number_of}
+use Rattle.codec.specs.declared.refusal.Refusal.{Refusal}
 use Rattle.codec.specs.Octets.{Octets, part}
 use Rattle.codec.specs.Table.{message_limit}
-use Rattle.codec.specs.Records.{answer, accepted}
-use Rattle.codec.specs.Message.{parse, record_of, id_of, set_of, reading}
-use Rattle.codec.specs.Inner.Places.{number_in, record_at, Located}
+use Rattle.codec.specs.Records.{answer}
+use Rattle.codec.specs.Message.{reading}
+use Rattle.codec.specs.Inner.Places.{record_at, Located}
 use Rattle.codec.specs.Inner.Puts.{Put}
 use Rattle.codec.specs.declared.records.Record.{Record}
-use Rattle.codec.specs.declared.records.Reading.{Reading}
-use Rattle.codec.proofs.Outcomes.{by_bool, no_zero}
+use Rattle.codec.proofs.Outcomes.{by_bool}
 use Rattle.codec.proofs.Puts.{put_then}
 use Rattle.codec.proofs.Laws.{octets_part}
-use Rattle.bench_log.specs.LogRecord.{Held, taken_apart, parts_of, reading_of, direction_of}
+use Rattle.bench_log.specs.LogRecord.{taken_apart, parts_of, reading_of, direction_of}
 use Rattle.bench_log.specs.Text.{ascii, decimal}
 use Rattle.bench_log.specs.Comparison.{same, Difference, difference, shown, is_same_reading, shown_contents, difference_line, difference_lines, pair_lines, pair_kind}
-use Rattle.bench_log.specs.Inner.Pairs.{direction_difference, head_differences, Sees}
+use Rattle.bench_log.specs.Inner.Pairs.{direction_difference, head_differences, refusal_in, Holds, Finds, Sees}
 use Rattle.bench_log.specs.Inner.Differences.{read_differences, MessagesReady, messages_limit}
 use Rattle.bench_log.specs.declared.kinds.Kind.TheVariants.{SameReading, Different}
 use Rattle.bench_log.specs.declared.layout.Parts.{Parts}
+use Rattle.bench_log.specs.declared.pair.Places.{Places}
 use Rattle.bench_log.specs.declared.pair.Seen.{Seen}
 use Rattle.bench_log.proofs.Entries.{apart, broken}
 use Rattle.bench_log.proofs.Shown.{shown_from, shown_left, shown_right, shown_ids, shown_messages}
@@ -30,53 +31,31 @@ use Rattle.bench_log.proofs.Readings.{same_exactly}
 
 -- ---- what is seen of a record
 
-read_number : (m : List ℕ) → (answer (reading m)).refusal ≡ number_in (parse m)
-unfolding reading
-read_number m = go (parse m)
-  where
-    go : (c : Checked (List (List ℕ))) → (answer (and_then c λ blocks. Ok (record_of (id_of m) (set_of m) blocks))).refusal ≡ number_in c
-    go (Err x) = refl
-    go (Ok blocks) = refl
-
-module _ (r : List ℕ) (p : Parts) (e : p ≡ parts_of (taken_apart message_limit r)) where
-  pub sees_broken : (p.refusal ≡ 0 → ⊥) → (end : ℕ) (places : List ℕ) → Sees r (record { direction = 0; refusal = p.refusal; end = end; places = places })
+module _ (r : List ℕ) where
+  pub sees_broken : (x : Refusal) → Err x ≡ parts_of (taken_apart message_limit r) → Sees r (record { direction = 0; message = Err x })
   unfolding reading_of
-  sees_broken z end places =
-      let b = broken message_limit r p e z in
-      record {
-        direction = sym (ap (λ (q : Checked Held). (parts_of q).direction) b);
-        refusal = ap (λ (p : Parts). p.refusal) e ∙ rw b;
-        holds = λ y. absurd (z y);
-      }
+  sees_broken x e = let b = broken message_limit r x e in record { direction = rw b; message = rw b }
 
-  pub sees_found : {f : ℕ} {places : List ℕ} → p.refusal ≡ 0 → Located (part 4 (4 + p.length - 4) r) f places
-      → Sees r (record { direction = p.direction; refusal = f; end = 4 + p.length; places = places })
-  unfolding reading_of
-  sees_found {f} {places} z l =
-      let a = apart message_limit r p e z in
-      let n : 4 + p.length - 4 ≡ p.length = omega arith in
-      let m = part 4 (4 + p.length - 4) r in
-      let read : and_then (taken_apart message_limit r) (λ h. reading h.message) ≡ reading m = rw (a.holds, n) in
-      record {
-        direction = sym (ap (λ (q : Checked Held). (parts_of q).direction) a.holds);
-        refusal = l.number ∙ sym (read_number m) ∙ ap (λ (c : Checked Record). (answer c).refusal) (sym read);
-        holds = λ y. record { from = omega arith; to = omega (arith, a.fits, a.size); located = subst (λ (f : ℕ). Located m f places) y l; read = read };
-      }
+  module _ (p : Parts) (e : Ok p ≡ parts_of (taken_apart message_limit r)) where
+    abbrev held : List ℕ
+    held = part 4 (4 + p.length - 4) r
+
+    read : reading_of r ≡ reading held
+    unfolding reading_of
+    read = let n : 4 + p.length - 4 ≡ p.length = omega arith in rw ((apart message_limit r p e).holds, n)
+
+    direction : p.direction ≡ direction_of r
+    direction = rw (apart message_limit r p e).holds
+
+    pub sees_refused : (x : Refusal) → Located held (Err x) → Sees r (record { direction = p.direction; message = Err x })
+    sees_refused x l = record { direction = direction; message = read ∙ l }
+
+    pub sees_placed : (places : List ℕ) → Located held (Ok places) → Sees r (record { direction = p.direction; message = Ok (record { end = 4 + p.length; places = places }) })
+    sees_placed places l =
+        let a = apart message_limit r p e in
+        record { direction = direction; message = record { from = omega arith; to = omega (arith, a.fits, a.size); placed = l; read = read } }
 
 -- ---- what is shown of two
-
--- the record of an accepted message
-read_accepted : (m places : List ℕ) → Located m 0 places → reading m ≡ Ok (record_at m places)
-read_accepted m places l = go (reading m) (l.reads refl)
-  where
-    go : (c : Checked Record) → accepted (record_at m places) ≡ answer c → c ≡ Ok (record_at m places)
-    go (Err x) e = absurd (no_zero x (sym (ap (λ (a : Reading). a.refusal) e)))
-    go (Ok b) e = ap Ok (sym (ap (λ (a : Reading). a.value) e))
-
-either_refused : (dl dr : ℕ) (l r : Checked Record) → (((answer l).refusal ≡ 0) × ((answer r).refusal ≡ 0) → ⊥) → shown_from dl l dr r ≡ head_differences dl dr (answer l).refusal (answer r).refusal
-either_refused dl dr (Err x) r n = shown_left dl dr x r
-either_refused dl dr (Ok a) (Err y) n = shown_right dl dr a y
-either_refused dl dr (Ok a) (Ok b) n = absurd (n (refl, refl))
 
 both_accepted : (dl dr : ℕ) (a b : Record) → shown_from dl (Ok a) dr (Ok b) ≡ direction_difference dl dr ++ read_differences a b
 unfolding read_differences
@@ -85,38 +64,61 @@ both_accepted dl dr a b =
     (λ y. shown_messages dl dr a b (eqb-true a.id b.id y) ∙ rw y)
     (λ n. shown_ids dl dr a b (eqb-false a.id b.id n) ∙ rw n)
 
-module _ {l r : List ℕ} {s t : Seen} (x : Sees l s) (y : Sees r t) where
-  pub shown_heads : ((s.refusal ≡ 0) × (t.refusal ≡ 0) → ⊥) → shown l r ≡ head_differences s.direction t.direction s.refusal t.refusal
-  shown_heads n =
-      rw (x.direction, y.direction, x.refusal, y.refusal)
-      (either_refused (direction_of l) (direction_of r) (reading_of l) (reading_of r) (λ e. n (x.refusal ∙ e.0, y.refusal ∙ e.1)))
+-- the number of the refusal, where one is found
+refusal_found : (r : List ℕ) (c : Checked Places) → Finds r c → (answer (reading_of r)).refusal ≡ refusal_in c
+refusal_found r (Err x) f = rw f
+refusal_found r (Ok p) f = rw (f.read ∙ f.placed.reads)
 
-  module _ (f : s.refusal ≡ 0) (g : t.refusal ≡ 0) where
+module _ (l r : List ℕ) (s t : Seen) (x : Sees l s) (y : Sees r t) where
+  abbrev Heads : Type 0
+  Heads = shown l r ≡ head_differences s.direction t.direction (refusal_in s.message) (refusal_in t.message)
+
+  pub left_refused : (n : Refusal) → s.message ≡ Err n → Heads
+  left_refused n e =
+      let f : reading_of l ≡ Err n = rw e at x.message in
+      rw (x.direction, y.direction, e, f, ← refusal_found r t.message y.message) (shown_left (direction_of l) (direction_of r) n (reading_of r))
+
+  pub right_refused : (n : Refusal) → t.message ≡ Err n → Heads
+  right_refused n e =
+      let f : reading_of r ≡ Err n = rw e at y.message in
+      rw (x.direction, y.direction, e, f, ← refusal_found l s.message x.message) (go (reading_of l))
+    where
+      go : (c : Checked Record) → shown_from (direction_of l) c (direction_of r) (Err n) ≡ head_differences (direction_of l) (direction_of r) (answer c).refusal (number_of n)
+      go (Err m) = shown_left (direction_of l) (direction_of r) m (Err n)
+      go (Ok a) = shown_right (direction_of l) (direction_of r) a n
+
+  module _ (p q : Places) (f : s.message ≡ Ok p) (g : t.message ≡ Ok q) where
     abbrev ml : List ℕ
-    ml = part 4 (s.end - 4) l
+    ml = part 4 (p.end - 4) l
 
     abbrev mr : List ℕ
-    mr = part 4 (t.end - 4) r
+    mr = part 4 (q.end - 4) r
 
-    pub messages_ready : {d : List ℕ} {at : ℕ} → Octets l → Octets r → at + messages_limit ≤ length d → MessagesReady ml s.places mr t.places at d
-    messages_ready o p room = record {
-      left = (x.holds f).located;
-      right = (y.holds g).located;
-      octets = (octets_part 4 (s.end - 4) l o, octets_part 4 (t.end - 4) r p);
+    pub left_holds : Holds l p
+    left_holds = rw f at x.message
+
+    pub right_holds : Holds r q
+    right_holds = rw g at y.message
+
+    pub messages_ready : {d : List ℕ} {at : ℕ} → Octets l → Octets r → at + messages_limit ≤ length d → MessagesReady ml p.places mr q.places at d
+    messages_ready o u room = record {
+      left = left_holds.placed;
+      right = right_holds.placed;
+      octets = (octets_part 4 (p.end - 4) l o, octets_part 4 (q.end - 4) r u);
       room = room;
     }
 
-    shown_read : shown l r ≡ direction_difference s.direction t.direction ++ read_differences (record_at ml s.places) (record_at mr t.places)
+    shown_read : shown l r ≡ direction_difference s.direction t.direction ++ read_differences (record_at ml p.places) (record_at mr q.places)
     shown_read =
-        rw ((x.holds f).read ∙ read_accepted ml s.places (x.holds f).located, (y.holds g).read ∙ read_accepted mr t.places (y.holds g).located, x.direction, y.direction)
-        (both_accepted (direction_of l) (direction_of r) (record_at ml s.places) (record_at mr t.places))
+        rw (left_holds.read ∙ left_holds.placed.reads, right_holds.read ∙ right_holds.placed.reads, x.direction, y.direction)
+        (both_accepted (direction_of l) (direction_of r) (record_at ml p.places) (record_at mr q.places))
 
-    pub put_read : (n : ℕ) {d e h : List ℕ} {at p q : ℕ} → Put d at (difference_lines n (head_differences s.direction t.direction s.refusal t.refusal)) e p
-        → Put e p (difference_lines n (read_differences (record_at ml s.places) (record_at mr t.places))) h q → Put d at (difference_lines n (shown l r)) h q
+    pub put_read : (n : ℕ) {d e h : List ℕ} {at i j : ℕ} → Put d at (difference_lines n (head_differences s.direction t.direction (refusal_in s.message) (refusal_in t.message))) e i
+        → Put e i (difference_lines n (read_differences (record_at ml p.places) (record_at mr q.places))) h j → Put d at (difference_lines n (shown l r)) h j
     unfolding difference
     put_read n a b =
-        let head : head_differences s.direction t.direction s.refusal t.refusal ≡ direction_difference s.direction t.direction = rw (f, g) (append-nil (direction_difference s.direction t.direction)) in
-        rw (shown_read, lines_append n (direction_difference s.direction t.direction) (read_differences (record_at ml s.places) (record_at mr t.places))) (put_then (rw head at a) b)
+        let head : head_differences s.direction t.direction (refusal_in s.message) (refusal_in t.message) ≡ direction_difference s.direction t.direction = rw (f, g) (append-nil (direction_difference s.direction t.direction)) in
+        rw (shown_read, lines_append n (direction_difference s.direction t.direction) (read_differences (record_at ml p.places) (record_at mr q.places))) (put_then (rw head at a) b)
 
 -- ---- what is said of a pair
 

@@ -4,7 +4,7 @@ ghost use Rattle.codec.specs.Octets.{Octets};
 ghost use Rattle.codec.specs.Inner.Puts.{Put};
 ghost use Rattle.bench_log.specs.Text.{decimal};
 ghost use Rattle.bench_log.specs.Comparison.{shown, difference_lines, pair_lines, pair_kind, position_limit};
-ghost use Rattle.bench_log.specs.Inner.Pairs.{Sees, head_differences};
+ghost use Rattle.bench_log.specs.Inner.Pairs.{Sees, refusal_in, head_differences};
 
 use crate::difference::Heading;
 use crate::found::Found;
@@ -13,15 +13,32 @@ use crate::layout::take_apart;
 use crate::messages::put_messages;
 use crate::same::same;
 use crate::text::{put_number, put_text};
-use codec::MESSAGE_LIMIT;
+use codec::{MESSAGE_LIMIT, Refusal};
 
-// What is seen of a record: its direction and its refusal, and if it is accepted where its message ends and its blocks begin.
+// Of an accepted message: where it ends in its record, and where its blocks begin.
+#[derive(Clone, Copy)]
+pub(crate) struct Places {
+    end: usize,
+    places: [u16; 5],
+}
+
+// What is seen of a record: its direction, and what is found of its message.
 #[derive(Clone, Copy)]
 pub(crate) struct Seen {
     direction: u8,
-    refusal: u8,
-    end: usize,
-    places: [u16; 5],
+    message: Result<Places, Refusal>,
+}
+
+impl Seen {
+    // The refusal's number, or 0.
+    fn refusal(&self) -> u8
+        ensures { result ≡ refusal_in self.now.message }
+    {
+        match self.message {
+            Ok(_) => 0,
+            Err(refusal) => u8::from(refusal),
+        }
+    }
 }
 
 // The place after the lines of a pair, and its kind.
@@ -34,30 +51,29 @@ pub(crate) struct Said {
 fn look_at(octets: &[u8]) -> Seen
     ensures { Sees octets.now result }
 {
-    let parts = take_apart(octets, MESSAGE_LIMIT);
-    if parts.refusal != 0 {
-        return Seen {
+    match take_apart(octets, MESSAGE_LIMIT) {
+        Err(refusal) => Seen {
             direction: 0,
-            refusal: parts.refusal,
-            end: 0,
-            places: [0; 5],
-        };
-    }
-    let end = 4 + parts.length;
-    let found = codec::find(&octets[4..end]);
-    let places = found.places;
-    Seen {
-        direction: parts.direction,
-        refusal: found.fault,
-        end,
-        places,
+            message: Err(refusal),
+        },
+        Ok(parts) => {
+            let end = 4 + parts.length;
+            let message = match codec::find(&octets[4..end]) {
+                Err(refusal) => Err(refusal),
+                Ok(places) => Ok(Places { end, places }),
+            };
+            Seen {
+                direction: parts.direction,
+                message,
+            }
+        }
     }
 }
 
 // The lines of the directions and the refusal numbers.
 fn put_heads(out: &mut [u8], at: usize, number: u64, left: &Seen, right: &Seen) -> usize
     requires { at + 177 ≤ length out.old }
-    ensures { Put out.old at (difference_lines number (head_differences left.now.direction right.now.direction left.now.refusal right.now.refusal)) out.new result
+    ensures { Put out.old at (difference_lines number (head_differences left.now.direction right.now.direction (refusal_in left.now.message) (refusal_in right.now.message))) out.new result
         × (result ≤ at + 177) }
 {
     let heading = Heading::of_record(number);
@@ -72,8 +88,8 @@ fn put_heads(out: &mut [u8], at: usize, number: u64, left: &Seen, right: &Seen) 
         out,
         next,
         b"refusal number",
-        u64::from(left.refusal),
-        u64::from(right.refusal),
+        u64::from(left.refusal()),
+        u64::from(right.refusal()),
     )
 }
 
@@ -86,15 +102,14 @@ fn put_differences(out: &mut [u8], at: usize, number: u64, left: &[u8], right: &
     let l = look_at(left);
     let r = look_at(right);
     let next = put_heads(out, at, number, &l, &r);
-    if l.refusal != 0 {
-        return next;
+    match (l.message, r.message) {
+        (Ok(a), Ok(b)) => {
+            let x = Found::new(&left[4..a.end], &a.places);
+            let y = Found::new(&right[4..b.end], &b.places);
+            put_messages(out, next, number, &x, &y)
+        }
+        _ => next,
     }
-    if r.refusal != 0 {
-        return next;
-    }
-    let x = Found::new(&left[4..l.end], &l.places);
-    let y = Found::new(&right[4..r.end], &r.places);
-    put_messages(out, next, number, &x, &y)
 }
 
 // A record's number, and words.

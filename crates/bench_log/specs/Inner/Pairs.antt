@@ -1,15 +1,17 @@
 -- What is seen of a log record, and what differs in the heads of two.
 use Rattle.std.specs.Prelude.{◌≡◌, ℕ, ◌-◌, ◌≤◌, List, ◌++◌, length}
 use Rattle.codec.specs.Octets.{part}
-use Rattle.codec.specs.Records.{answer}
+use Rattle.std.specs.Prelude.{Err, Ok}
+use Rattle.codec.specs.Refusal.{Checked, number_of}
 use Rattle.codec.specs.Message.{reading}
-use Rattle.codec.specs.Inner.Places.{Located}
+use Rattle.codec.specs.Inner.Places.{Placed}
 use Rattle.bench_log.specs.LogRecord.{reading_of, direction_of}
 use Rattle.bench_log.specs.Text.{ascii}
 use Rattle.bench_log.specs.Fields.{amount, direction_name, refusal_name}
 use Rattle.bench_log.specs.Comparison.{Difference, difference, Position, only_left, only_right}
 use Rattle.bench_log.specs.declared.comparison.Side.{Side}
 use Rattle.bench_log.specs.declared.comparison.Side.TheVariants.{Left, Right}
+use Rattle.bench_log.specs.declared.pair.Places.{Places}
 use Rattle.bench_log.specs.declared.pair.Seen.{Seen}
 
 abbrev pub direction_difference : (left right : ℕ) → List Difference
@@ -18,17 +20,26 @@ direction_difference left right = difference direction_name (amount left) (amoun
 abbrev pub head_differences : (left right refusal other : ℕ) → List Difference
 head_differences left right refusal other = direction_difference left right ++ difference refusal_name (amount refusal) (amount other)
 
+-- the refusal's number, or 0
+abbrev pub refusal_in : {A : Type 0} → Checked A → ℕ
+refusal_in (Err x) = number_of x
+refusal_in (Ok a) = 0
+
 -- the message of an accepted record: its octets, and the places of its blocks
-pub record Holds (r : List ℕ) (end : ℕ) (places : List ℕ) : Type 0 where
-  pub from : 4 ≤ end
-  pub to : end ≤ length r
-  pub located : Located (part 4 (end - 4) r) 0 places
-  pub read : reading_of r ≡ reading (part 4 (end - 4) r)
+pub record Holds (r : List ℕ) (p : Places) : Type 0 where
+  pub from : 4 ≤ p.end
+  pub to : p.end ≤ length r
+  pub placed : Placed (part 4 (p.end - 4) r) p.places
+  pub read : reading_of r ≡ reading (part 4 (p.end - 4) r)
+
+-- a record that is refused, or accepted with such a message
+abbrev pub Finds : List ℕ → Checked Places → Type 0
+Finds r (Err x) = reading_of r ≡ Err x
+Finds r (Ok p) = Holds r p
 
 pub record Sees (r : List ℕ) (s : Seen) : Type 0 where
   pub direction : s.direction ≡ direction_of r
-  pub refusal : s.refusal ≡ (answer (reading_of r)).refusal
-  pub holds : s.refusal ≡ 0 → Holds r s.end s.places
+  pub message : Finds r s.message
 
 -- a record that only one log has, with the words after its number
 abbrev pub only_on : Side → List ℕ → Position

@@ -1,31 +1,19 @@
-use Rattle.bench_log.proofs.RecordPairs.{shown_heads, messages_ready, put_read}
+use Rattle.bench_log.proofs.RecordPairs.{left_refused, right_refused, messages_ready, put_read}
 use Rattle.std.proofs.Common.{arith}
 use Rattle.bench_log.proofs.pair.put_differences.Goals as goal
-
-pub returns-then-l-ne0 : goal.returns-then-l-ne0
-returns-then-l-ne0 c = ((λ i. omega (arith, c.type_inv.left i), λ i. omega (arith, c.type_inv.right i)), (rw (shown_heads c.look_at-l.ensures c.look_at-r.ensures (λ e. c.if-l-ne0.true e.0)) c.put_heads-next.ensures.0, omega (arith, c.put_heads-next.ensures.1)))
-
-pub returns-then-r-ne0 : goal.returns-then-r-ne0
-returns-then-r-ne0 c = ((λ i. omega (arith, c.type_inv.left i), λ i. omega (arith, c.type_inv.right i)), (rw (shown_heads c.look_at-l.ensures c.look_at-r.ensures (λ e. c.if-r-ne0.true e.1)) c.put_heads-next.ensures.0, omega (arith, c.put_heads-next.ensures.1)))
-
-pub slice_bounds-new-start : goal.slice_bounds-new-start
-slice_bounds-new-start c = (c.look_at-l.ensures.holds c.if-l-ne0.false).from
-
-pub slice_bounds-new-end : goal.slice_bounds-new-end
-slice_bounds-new-end c = (c.look_at-l.ensures.holds c.if-l-ne0.false).to
-
-pub slice_bounds-new-start-2 : goal.slice_bounds-new-start-2
-slice_bounds-new-start-2 c = (c.look_at-r.ensures.holds c.if-r-ne0.false).from
-
-pub slice_bounds-new-end-2 : goal.slice_bounds-new-end-2
-slice_bounds-new-end-2 c = (c.look_at-r.ensures.holds c.if-r-ne0.false).to
 
 pub put_messages-requires : goal.put_messages-requires
 put_messages-requires c =
     rw (c.new-x.ensures.0, c.new-x.ensures.1, c.new-y.ensures.0, c.new-y.ensures.1)
-    (messages_ready c.look_at-l.ensures c.look_at-r.ensures c.if-l-ne0.false c.if-r-ne0.false (λ i. omega (arith, c.type_inv.left i)) (λ i. omega (arith, c.type_inv.right i)) (omega (arith, c.requires, c.put_heads-next.ensures.1, c.put_heads-next.ensures.0.same)))
+    (messages_ready _ _ _ _ c.look_at-l.ensures c.look_at-r.ensures _ _ c.in-Ok-Ok.is-0 c.in-Ok-Ok.is-1 (λ i. omega (arith, c.type_inv.left i)) (λ i. omega (arith, c.type_inv.right i)) (omega (arith, c.requires, c.put_heads-next.ensures.1, c.put_heads-next.ensures.0.same)))
 
-pub returns : goal.returns
-returns c =
+pub returns-in-Ok-Ok : goal.returns-in-Ok-Ok
+returns-in-Ok-Ok c =
     let m = rw (c.new-x.ensures.0, c.new-x.ensures.1, c.new-y.ensures.0, c.new-y.ensures.1) at c.put_messages.ensures in
-    ((λ i. omega (arith, c.type_inv.left i), λ i. omega (arith, c.type_inv.right i)), (put_read c.look_at-l.ensures c.look_at-r.ensures c.if-l-ne0.false c.if-r-ne0.false _ c.put_heads-next.ensures.0 m.0, omega (arith, c.put_heads-next.ensures.1, m.1)))
+    ((λ i. omega (arith, c.type_inv.left i), λ i. omega (arith, c.type_inv.right i)), (put_read _ _ _ _ c.look_at-l.ensures c.look_at-r.ensures _ _ c.in-Ok-Ok.is-0 c.in-Ok-Ok.is-1 _ c.put_heads-next.ensures.0 m.0, omega (arith, c.put_heads-next.ensures.1, m.1)))
+
+pub returns-in_default : goal.returns-in_default
+returns-in_default c = ((λ i. omega (arith, c.type_inv.left i), λ i. omega (arith, c.type_inv.right i)), (rw (right_refused _ _ _ _ c.look_at-l.ensures c.look_at-r.ensures _ c.in_default.is-1) c.put_heads-next.ensures.0, omega (arith, c.put_heads-next.ensures.1)))
+
+pub returns-in_default-2 : goal.returns-in_default-2
+returns-in_default-2 c = ((λ i. omega (arith, c.type_inv.left i), λ i. omega (arith, c.type_inv.right i)), (rw (left_refused _ _ _ _ c.look_at-l.ensures c.look_at-r.ensures _ c.in_default.is-0) c.put_heads-next.ensures.0, omega (arith, c.put_heads-next.ensures.1)))
