@@ -1,8 +1,8 @@
 -- Two lists of octets are the same, and two contents are alike, exactly if they are equal.
-use Rattle.std.proofs.Common.{◌≡◌, ℕ, zero, suc, ◌<◌, true, false, ◌&&◌, eqb, List, [], ◌∷◌, length, get_or, take, sym, refl, ap, true≢false, arith, eq-eqb, eqb-true}
-use mathlib.Core.Bool.{and_assoc}
-use mathlib.Core.Bool.{and-true as and_right}
-use Rattle.codec.proofs.Outcomes.{by_bool, and_true_lem}
+use Rattle.std.proofs.Common.{◌≡◌, ℕ, true, eqb, List, [], ◌∷◌, sym, refl, ap, true≢false, eq-eqb, eqb-true}
+use Rattle.std.specs.Prelude.{nat_eq}
+use Rattle.std.specs.Cmp.Lexicographic.{pointwise}
+use Rattle.codec.proofs.Outcomes.{and_true_lem}
 use Rattle.bench_log.specs.Fields.{Contents, amount, string}
 use Rattle.bench_log.specs.Comparison.{same, alike}
 
@@ -34,12 +34,9 @@ alike_equal (string x) (string y) e = ap string (same_equal x y e)
 alike_equal (amount x) (string y) e = absurd (true≢false (sym e))
 alike_equal (string x) (amount y) e = absurd (true≢false (sym e))
 
--- lists of different lengths, and octet by octet
-pub not_same : (x y : List ℕ) → (length x ≡ length y → ⊥) → same x y ≡ false
-not_same x y n = by_bool (same x y) (λ e. absurd (n (ap length (same_equal x y e)))) (λ e. e)
-
-pub same_next : (i : ℕ) (x y : List ℕ) → i < length x → i < length y → same (take (suc i) x) (take (suc i) y) ≡ (same (take i x) (take i y) && eqb (get_or x i 0) (get_or y i 0))
-same_next zero (x ∷ xs) (y ∷ ys) h k = and_right (eqb x y)
-same_next (suc i) (x ∷ xs) (y ∷ ys) h k = rw (same_next i xs ys (omega arith) (omega arith)) (sym (and_assoc (eqb x y) _ _))
-same_next i [] y h k = absurd (omega arith)
-same_next i (x ∷ xs) [] h k = absurd (omega arith)
+-- as the library compares two slices
+pub same_pointwise : (x y : List ℕ) → same x y ≡ pointwise nat_eq x y
+same_pointwise [] [] = refl
+same_pointwise [] (y ∷ ys) = refl
+same_pointwise (x ∷ xs) [] = refl
+same_pointwise (x ∷ xs) (y ∷ ys) = rw (same_pointwise xs ys)

@@ -9,7 +9,7 @@ use Rattle.codec.specs.Octets.{Octets, part}
 use Rattle.codec.specs.Table.{message_limit}
 use Rattle.codec.specs.Records.{answer}
 use Rattle.codec.specs.Message.{reading}
-use Rattle.codec.specs.Inner.Places.{record_at, Located}
+use Rattle.codec.specs.Inner.Places.{record_at}
 use Rattle.codec.specs.Inner.Puts.{Put}
 use Rattle.codec.specs.declared.records.Record.{Record}
 use Rattle.codec.proofs.Outcomes.{by_bool}
@@ -18,11 +18,11 @@ use Rattle.codec.proofs.Laws.{octets_part}
 use Rattle.bench_log.specs.LogRecord.{taken_apart, parts_of, reading_of, direction_of}
 use Rattle.bench_log.specs.Text.{ascii, decimal}
 use Rattle.bench_log.specs.Comparison.{same, Difference, difference, shown, is_same_reading, shown_contents, difference_line, difference_lines, pair_lines, pair_kind}
-use Rattle.bench_log.specs.Inner.Pairs.{direction_difference, head_differences, refusal_in, Holds, Finds, Sees}
+use Rattle.bench_log.specs.Inner.Pairs.{direction_difference, head_differences, refusal_in, Finds, Holds, SeesMessage, Sees}
 use Rattle.bench_log.specs.Inner.Differences.{read_differences, MessagesReady, messages_limit}
 use Rattle.bench_log.specs.declared.kinds.Kind.TheVariants.{SameReading, Different}
 use Rattle.bench_log.specs.declared.layout.Parts.{Parts}
-use Rattle.bench_log.specs.declared.pair.Places.{Places}
+use Rattle.bench_log.specs.declared.found.Found.{Found}
 use Rattle.bench_log.specs.declared.pair.Seen.{Seen}
 use Rattle.bench_log.proofs.Entries.{apart, broken}
 use Rattle.bench_log.proofs.Shown.{shown_from, shown_left, shown_right, shown_ids, shown_messages}
@@ -36,24 +36,23 @@ module _ (r : List ℕ) where
   unfolding reading_of
   sees_broken x e = let b = broken message_limit r x e in record { direction = rw b; message = rw b }
 
-  module _ (p : Parts) (e : Ok p ≡ parts_of (taken_apart message_limit r)) where
-    abbrev held : List ℕ
-    held = part 4 (4 + p.length - 4) r
+  pub sees_found : (p : Parts) → Ok p ≡ parts_of (taken_apart message_limit r) → (c : Checked Found) → Finds (part 4 (4 + p.length - 4) r) c
+      → Sees r (record { direction = p.direction; message = c })
+  unfolding reading_of
+  sees_found p e c f = record { direction = rw h; message = go c f }
+    where
+      h : taken_apart message_limit r ≡ Ok (record { direction = p.direction; message = part 4 p.length r })
+      h = (apart message_limit r p e).holds
 
-    read : reading_of r ≡ reading held
-    unfolding reading_of
-    read = let n : 4 + p.length - 4 ≡ p.length = omega arith in rw ((apart message_limit r p e).holds, n)
+      n : 4 + p.length - 4 ≡ p.length
+      n = omega arith
 
-    direction : p.direction ≡ direction_of r
-    direction = rw (apart message_limit r p e).holds
+      read : reading_of r ≡ reading (part 4 (4 + p.length - 4) r)
+      read = rw (h, n)
 
-    pub sees_refused : (x : Refusal) → Located held (Err x) → Sees r (record { direction = p.direction; message = Err x })
-    sees_refused x l = record { direction = direction; message = read ∙ l }
-
-    pub sees_placed : (places : List ℕ) → Located held (Ok places) → Sees r (record { direction = p.direction; message = Ok (record { end = 4 + p.length; places = places }) })
-    sees_placed places l =
-        let a = apart message_limit r p e in
-        record { direction = direction; message = record { from = omega arith; to = omega (arith, a.fits, a.size); placed = l; read = read } }
+      go : (c : Checked Found) → Finds (part 4 (4 + p.length - 4) r) c → SeesMessage r c
+      go (Err x) f = read ∙ f
+      go (Ok g) f = record { size = 4 + p.length - 4; message = f.0; placed = rw f.0 f.1; read = rw f.0 read }
 
 -- ---- what is shown of two
 
@@ -64,61 +63,55 @@ both_accepted dl dr a b =
     (λ y. shown_messages dl dr a b (eqb-true a.id b.id y) ∙ rw y)
     (λ n. shown_ids dl dr a b (eqb-false a.id b.id n) ∙ rw n)
 
--- the number of the refusal, where one is found
-refusal_found : (r : List ℕ) (c : Checked Places) → Finds r c → (answer (reading_of r)).refusal ≡ refusal_in c
-refusal_found r (Err x) f = rw f
-refusal_found r (Ok p) f = rw (f.read ∙ f.placed.reads)
+-- the number of the refusal, where there is one
+refusal_seen : (r : List ℕ) (c : Checked Found) → SeesMessage r c → (answer (reading_of r)).refusal ≡ refusal_in c
+refusal_seen r (Err x) f = rw f
+refusal_seen r (Ok p) f = rw (f.read ∙ f.placed.reads)
 
-module _ (l r : List ℕ) (s t : Seen) (x : Sees l s) (y : Sees r t) where
-  abbrev Heads : Type 0
-  Heads = shown l r ≡ head_differences s.direction t.direction (refusal_in s.message) (refusal_in t.message)
+module _ {l r : List ℕ} {s t : Seen} (x : Sees l s) (y : Sees r t) where
+  abbrev heads : List Difference
+  heads = head_differences s.direction t.direction (refusal_in s.message) (refusal_in t.message)
 
-  pub left_refused : (n : Refusal) → s.message ≡ Err n → Heads
-  left_refused n e =
+  pub left_refused : {n : Refusal} → s.message ≡ Err n → shown l r ≡ heads
+  left_refused {n} e =
       let f : reading_of l ≡ Err n = rw e at x.message in
-      rw (x.direction, y.direction, e, f, ← refusal_found r t.message y.message) (shown_left (direction_of l) (direction_of r) n (reading_of r))
+      rw (x.direction, y.direction, e, f, ← refusal_seen r t.message y.message) (shown_left (direction_of l) (direction_of r) n (reading_of r))
 
-  pub right_refused : (n : Refusal) → t.message ≡ Err n → Heads
-  right_refused n e =
+  pub right_refused : {n : Refusal} → t.message ≡ Err n → shown l r ≡ heads
+  right_refused {n} e =
       let f : reading_of r ≡ Err n = rw e at y.message in
-      rw (x.direction, y.direction, e, f, ← refusal_found l s.message x.message) (go (reading_of l))
+      rw (x.direction, y.direction, e, f, ← refusal_seen l s.message x.message) (go (reading_of l))
     where
       go : (c : Checked Record) → shown_from (direction_of l) c (direction_of r) (Err n) ≡ head_differences (direction_of l) (direction_of r) (answer c).refusal (number_of n)
       go (Err m) = shown_left (direction_of l) (direction_of r) m (Err n)
       go (Ok a) = shown_right (direction_of l) (direction_of r) a n
 
-  module _ (p q : Places) (f : s.message ≡ Ok p) (g : t.message ≡ Ok q) where
-    abbrev ml : List ℕ
-    ml = part 4 (p.end - 4) l
+  module _ {f g : Found} (i : s.message ≡ Ok f) (j : t.message ≡ Ok g) where
+    left : Holds l f
+    left = rw i at x.message
 
-    abbrev mr : List ℕ
-    mr = part 4 (q.end - 4) r
+    right : Holds r g
+    right = rw j at y.message
 
-    pub left_holds : Holds l p
-    left_holds = rw f at x.message
-
-    pub right_holds : Holds r q
-    right_holds = rw g at y.message
-
-    pub messages_ready : {d : List ℕ} {at : ℕ} → Octets l → Octets r → at + messages_limit ≤ length d → MessagesReady ml p.places mr q.places at d
-    messages_ready o u room = record {
-      left = left_holds.placed;
-      right = right_holds.placed;
-      octets = (octets_part 4 (p.end - 4) l o, octets_part 4 (q.end - 4) r u);
+    pub messages_ready : {d : List ℕ} {at : ℕ} → Octets l → Octets r → at + messages_limit ≤ length d → MessagesReady f.message.now f.places g.message.now g.places at d
+    messages_ready o p room = record {
+      left = left.placed;
+      right = right.placed;
+      octets = (rw left.message (octets_part 4 left.size l o), rw right.message (octets_part 4 right.size r p));
       room = room;
     }
 
-    shown_read : shown l r ≡ direction_difference s.direction t.direction ++ read_differences (record_at ml p.places) (record_at mr q.places)
+    shown_read : shown l r ≡ direction_difference s.direction t.direction ++ read_differences (record_at f.message.now f.places) (record_at g.message.now g.places)
     shown_read =
-        rw (left_holds.read ∙ left_holds.placed.reads, right_holds.read ∙ right_holds.placed.reads, x.direction, y.direction)
-        (both_accepted (direction_of l) (direction_of r) (record_at ml p.places) (record_at mr q.places))
+        rw (left.read ∙ left.placed.reads, right.read ∙ right.placed.reads, x.direction, y.direction)
+        (both_accepted (direction_of l) (direction_of r) (record_at f.message.now f.places) (record_at g.message.now g.places))
 
-    pub put_read : (n : ℕ) {d e h : List ℕ} {at i j : ℕ} → Put d at (difference_lines n (head_differences s.direction t.direction (refusal_in s.message) (refusal_in t.message))) e i
-        → Put e i (difference_lines n (read_differences (record_at ml p.places) (record_at mr q.places))) h j → Put d at (difference_lines n (shown l r)) h j
+    pub put_read : (n : ℕ) {d e h : List ℕ} {at p q : ℕ} → Put d at (difference_lines n heads) e p
+        → Put e p (difference_lines n (read_differences (record_at f.message.now f.places) (record_at g.message.now g.places))) h q → Put d at (difference_lines n (shown l r)) h q
     unfolding difference
     put_read n a b =
-        let head : head_differences s.direction t.direction (refusal_in s.message) (refusal_in t.message) ≡ direction_difference s.direction t.direction = rw (f, g) (append-nil (direction_difference s.direction t.direction)) in
-        rw (shown_read, lines_append n (direction_difference s.direction t.direction) (read_differences (record_at ml p.places) (record_at mr q.places))) (put_then (rw head at a) b)
+        let head : heads ≡ direction_difference s.direction t.direction = rw (i, j) (append-nil (direction_difference s.direction t.direction)) in
+        rw (shown_read, lines_append n (direction_difference s.direction t.direction) (read_differences (record_at f.message.now f.places) (record_at g.message.now g.places))) (put_then (rw head at a) b)
 
 -- ---- what is said of a pair
 

@@ -56,8 +56,8 @@ fn put_sections(
     left: &Found,
     right: &Found,
 ) -> usize
-    requires { SectionsReady (column_by column) left.now.set right.now.set left.now.message.now left.now.places.now right.now.message.now right.now.places.now at out.old }
-    ensures { Put out.old at (difference_lines number (flatten (map (section_in (column_by column) left.now.set right.now.set left.now.message.now left.now.places.now right.now.message.now right.now.places.now) technologies))) out.new result
+    requires { SectionsReady (column_by column) left.now.set right.now.set left.now.message.now left.now.places right.now.message.now right.now.places at out.old }
+    ensures { Put out.old at (difference_lines number (flatten (map (section_in (column_by column) left.now.set right.now.set left.now.message.now left.now.places right.now.message.now right.now.places) technologies))) out.new result
         × (result ≤ at + (section_limit (column_by column) uwb + (section_limit (column_by column) cs + (section_limit (column_by column) nan + section_limit (column_by column) rssi)))) }
 {
     let p = put_section(out, at, number, column, UWB, left, right);
@@ -74,8 +74,8 @@ pub(crate) fn put_messages(
     left: &Found,
     right: &Found,
 ) -> usize
-    requires { MessagesReady left.now.message.now left.now.places.now right.now.message.now right.now.places.now at out.old }
-    ensures { Put out.old at (difference_lines number (read_differences (record_at left.now.message.now left.now.places.now) (record_at right.now.message.now right.now.places.now))) out.new result
+    requires { MessagesReady left.now.message.now left.now.places right.now.message.now right.now.places at out.old }
+    ensures { Put out.old at (difference_lines number (read_differences (record_at left.now.message.now left.now.places) (record_at right.now.message.now right.now.places))) out.new result
         × (result ≤ at + messages_limit) }
 {
     let id = left.id();

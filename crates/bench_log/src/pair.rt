@@ -4,7 +4,7 @@ ghost use Rattle.codec.specs.Octets.{Octets};
 ghost use Rattle.codec.specs.Inner.Puts.{Put};
 ghost use Rattle.bench_log.specs.Text.{decimal};
 ghost use Rattle.bench_log.specs.Comparison.{shown, difference_lines, pair_lines, pair_kind, position_limit};
-ghost use Rattle.bench_log.specs.Inner.Pairs.{Sees, refusal_in, head_differences};
+ghost use Rattle.bench_log.specs.Inner.Pairs.{Finds, Sees, refusal_in, head_differences};
 
 use crate::difference::Heading;
 use crate::found::Found;
@@ -15,22 +15,38 @@ use crate::same::same;
 use crate::text::{put_number, put_text};
 use codec::{MESSAGE_LIMIT, Refusal};
 
-// Of an accepted message: where it ends in its record, and where its blocks begin.
+// What is seen of a record: its direction, and its message.
 #[derive(Clone, Copy)]
-pub(crate) struct Places {
-    end: usize,
-    places: [u16; 5],
-}
-
-// What is seen of a record: its direction, and what is found of its message.
-#[derive(Clone, Copy)]
-pub(crate) struct Seen {
+pub(crate) struct Seen<'a> {
     direction: u8,
-    message: Result<Places, Refusal>,
+    message: Result<Found<'a>, Refusal>,
 }
 
-impl Seen {
-    // The refusal's number, or 0.
+// What is found of a message.
+fn find(message: &[u8]) -> Result<Found<'_>, Refusal>
+    ensures { Finds message.now result }
+{
+    let places = codec::find(message)?;
+    Ok(Found::new(message, places))
+}
+
+impl<'a> Seen<'a> {
+    fn of(octets: &'a [u8]) -> Seen<'a>
+        ensures { Sees octets.now result }
+    {
+        match take_apart(octets, MESSAGE_LIMIT) {
+            Err(refusal) => Seen {
+                direction: 0,
+                message: Err(refusal),
+            },
+            Ok(parts) => Seen {
+                direction: parts.direction,
+                message: find(&octets[4..4 + parts.length]),
+            },
+        }
+    }
+
+    // The number of the refusal, or 0.
     fn refusal(&self) -> u8
         ensures { result ≡ refusal_in self.now.message }
     {
@@ -46,28 +62,6 @@ impl Seen {
 pub(crate) struct Said {
     pub end: usize,
     pub kind: Kind,
-}
-
-fn look_at(octets: &[u8]) -> Seen
-    ensures { Sees octets.now result }
-{
-    match take_apart(octets, MESSAGE_LIMIT) {
-        Err(refusal) => Seen {
-            direction: 0,
-            message: Err(refusal),
-        },
-        Ok(parts) => {
-            let end = 4 + parts.length;
-            let message = match codec::find(&octets[4..end]) {
-                Err(refusal) => Err(refusal),
-                Ok(places) => Ok(Places { end, places }),
-            };
-            Seen {
-                direction: parts.direction,
-                message,
-            }
-        }
-    }
 }
 
 // The lines of the directions and the refusal numbers.
@@ -99,17 +93,16 @@ fn put_differences(out: &mut [u8], at: usize, number: u64, left: &[u8], right: &
     ensures { (Octets left.now × Octets right.now)
         × (Put out.old at (difference_lines number (shown left.now right.now)) out.new result × (result ≤ at + 2481)) }
 {
-    let l = look_at(left);
-    let r = look_at(right);
+    let l = Seen::of(left);
+    let r = Seen::of(right);
     let next = put_heads(out, at, number, &l, &r);
-    match (l.message, r.message) {
-        (Ok(a), Ok(b)) => {
-            let x = Found::new(&left[4..a.end], &a.places);
-            let y = Found::new(&right[4..b.end], &b.places);
-            put_messages(out, next, number, &x, &y)
-        }
-        _ => next,
-    }
+    let Ok(x) = &l.message else {
+        return next;
+    };
+    let Ok(y) = &r.message else {
+        return next;
+    };
+    put_messages(out, next, number, x, y)
 }
 
 // A record's number, and words.

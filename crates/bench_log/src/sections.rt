@@ -45,8 +45,8 @@ pub(crate) fn put_section(
     left: &Found,
     right: &Found,
 ) -> usize
-    requires { (id < 4) × SectionReady (column_by column) (technology_by id) left.now.set right.now.set left.now.message.now left.now.places.now right.now.message.now right.now.places.now at out.old }
-    ensures { Put out.old at (difference_lines number (section_in (column_by column) left.now.set right.now.set left.now.message.now left.now.places.now right.now.message.now right.now.places.now (technology_by id))) out.new result
+    requires { (id < 4) × SectionReady (column_by column) (technology_by id) left.now.set right.now.set left.now.message.now left.now.places right.now.message.now right.now.places at out.old }
+    ensures { Put out.old at (difference_lines number (section_in (column_by column) left.now.set right.now.set left.now.message.now left.now.places right.now.message.now right.now.places (technology_by id))) out.new result
         × (result ≤ at + section_limit (column_by column) (technology_by id)) }
 {
     if !codec::both_have(left.set, right.set, id) {

@@ -1,5 +1,5 @@
 -- What is seen of a log record, and what differs in the heads of two.
-use Rattle.std.specs.Prelude.{◌≡◌, ℕ, ◌-◌, ◌≤◌, List, ◌++◌, length}
+use Rattle.std.specs.Prelude.{◌≡◌, ℕ, List, ◌++◌}
 use Rattle.codec.specs.Octets.{part}
 use Rattle.std.specs.Prelude.{Err, Ok}
 use Rattle.codec.specs.Refusal.{Checked, number_of}
@@ -11,7 +11,7 @@ use Rattle.bench_log.specs.Fields.{amount, direction_name, refusal_name}
 use Rattle.bench_log.specs.Comparison.{Difference, difference, Position, only_left, only_right}
 use Rattle.bench_log.specs.declared.comparison.Side.{Side}
 use Rattle.bench_log.specs.declared.comparison.Side.TheVariants.{Left, Right}
-use Rattle.bench_log.specs.declared.pair.Places.{Places}
+use Rattle.bench_log.specs.declared.found.Found.{Found}
 use Rattle.bench_log.specs.declared.pair.Seen.{Seen}
 
 abbrev pub direction_difference : (left right : ℕ) → List Difference
@@ -25,21 +25,25 @@ abbrev pub refusal_in : {A : Type 0} → Checked A → ℕ
 refusal_in (Err x) = number_of x
 refusal_in (Ok a) = 0
 
--- the message of an accepted record: its octets, and the places of its blocks
-pub record Holds (r : List ℕ) (p : Places) : Type 0 where
-  pub from : 4 ≤ p.end
-  pub to : p.end ≤ length r
-  pub placed : Placed (part 4 (p.end - 4) r) p.places
-  pub read : reading_of r ≡ reading (part 4 (p.end - 4) r)
+-- the refusal of a message, or its octets and the places of its blocks
+abbrev pub Finds : List ℕ → Checked Found → Type 0
+Finds m (Err x) = reading m ≡ Err x
+Finds m (Ok f) = (f.message.now ≡ m) × Placed m f.places
 
--- a record that is refused, or accepted with such a message
-abbrev pub Finds : List ℕ → Checked Places → Type 0
-Finds r (Err x) = reading_of r ≡ Err x
-Finds r (Ok p) = Holds r p
+-- the same of a record's message, which follows the head
+pub record Holds (r : List ℕ) (f : Found) : Type 0 where
+  pub size : ℕ
+  pub message : f.message.now ≡ part 4 size r
+  pub placed : Placed f.message.now f.places
+  pub read : reading_of r ≡ reading f.message.now
+
+abbrev pub SeesMessage : List ℕ → Checked Found → Type 0
+SeesMessage r (Err x) = reading_of r ≡ Err x
+SeesMessage r (Ok f) = Holds r f
 
 pub record Sees (r : List ℕ) (s : Seen) : Type 0 where
   pub direction : s.direction ≡ direction_of r
-  pub message : Finds r s.message
+  pub message : SeesMessage r s.message
 
 -- a record that only one log has, with the words after its number
 abbrev pub only_on : Side → List ℕ → Position

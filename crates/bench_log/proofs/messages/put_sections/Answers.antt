@@ -22,4 +22,4 @@ returns c = let s = c.args in
     let q = rw by_one at c.put_section-q.ensures in
     let r = rw by_two at c.put_section-r.ensures in
     let o = rw by_three at c.put_section.ensures in
-    (put_four _ (section_in (column_by s.column) s.left.now.set s.right.now.set s.left.now.message.now s.left.now.places.now s.right.now.message.now s.right.now.places.now) p.0 q.0 r.0 o.0, omega (arith, p.1, q.1, r.1, o.1))
+    (put_four _ (section_in (column_by s.column) s.left.now.set s.right.now.set s.left.now.message.now s.left.now.places s.right.now.message.now s.right.now.places) p.0 q.0 r.0 o.0, omega (arith, p.1, q.1, r.1, o.1))

@@ -5,7 +5,7 @@ use Rattle.std.proofs.Common.{arith, eq-eqb, ne_eqb}
 use Rattle.bench_log.proofs.difference.Heading.put_numbers.Goals as goal
 
 pub returns-then-left-right-clause-text : goal.returns-then-left-right-clause-text
-returns-then-left-right-clause-text c = put_alike _ (amount _) (amount _) _ _ _ (eq-eqb _ _ c.if-left-right.true) (omega arith)
+returns-then-left-right-clause-text c = put_alike _ (amount _) (amount _) _ _ _ (eq-eqb _ _ (omega arith)) (omega arith)
 
 pub returns-clause-text : goal.returns-clause-text
 returns-clause-text c =
