@@ -1,25 +1,24 @@
 -- Counting record by record gives the totals of the list, and each record is accepted or refused.
-use Rattle.std.proofs.Common.{◌≡◌, ℕ, ◌+◌, ◌^◌, ◌<◌, true, not, eqb, List, [], ◌∷◌, length, refl, arith, ne_eqb}
+use Rattle.std.proofs.Common.{◌≡◌, ℕ, ◌+◌, ◌^◌, ◌<◌, true, not, List, [], ◌∷◌, length, refl, arith}
 use Rattle.std.specs.Prelude.{Err, Ok}
 use Rattle.codec.specs.Refusal.{Checked}
-use Rattle.codec.specs.Records.{answer}
 use Rattle.codec.specs.declared.records.Record.{Record}
-use Rattle.codec.proofs.Outcomes.{by_bool, no_zero}
-use Rattle.bench_log.specs.LogRecord.{reading_of, entry_of}
+use Rattle.codec.proofs.Outcomes.{by_bool}
+use Rattle.bench_log.specs.LogRecord.{reading_of, listed, entry_of}
 use Rattle.bench_log.specs.Items.{counters_after, one_more}
 use Rattle.bench_log.specs.Totals.{is_accepted, totals, no_records, counted}
 use Rattle.bench_log.specs.Listing.{next_totals}
 use Rattle.bench_log.specs.declared.totals.Totals.{Totals}
 use Rattle.bench_log.proofs.Items.{all_counted, counted_all}
 
--- number 0 is given exactly where nothing is refused
-by_zero : (c : Checked Record) → eqb (answer c).refusal 0 ≡ is_accepted c
-by_zero (Err x) = ne_eqb _ _ (no_zero x)
-by_zero (Ok r) = refl
-
-zero_accepted : (r : List ℕ) → eqb (entry_of r).refusal 0 ≡ is_accepted (reading_of r)
+-- an entry is of an accepted message exactly where the record is accepted
+accepted_listed : (r : List ℕ) → is_accepted (entry_of r).message ≡ is_accepted (reading_of r)
 unfolding entry_of
-zero_accepted r = by_zero (reading_of r)
+accepted_listed r = go (reading_of r)
+  where
+    go : (c : Checked Record) → is_accepted (listed c) ≡ is_accepted c
+    go (Err x) = refl
+    go (Ok a) = refl
 
 pub one_more_record : (t : Totals) (r : List ℕ) → (next_totals t r).records ≡ one_more t.records
 unfolding counted
@@ -30,8 +29,8 @@ unfolding counted
 counting rs h =
     let after = counters_after next_totals no_records rs in
     let a : after.records ≡ length rs = omega (arith, counted_all next_totals (λ t. t.records) (λ r. true) (λ t r. refl) no_records rs (omega arith), all_counted rs) in
-    let b : after.accepted ≡ (totals rs).accepted = omega (arith, counted_all next_totals (λ t. t.accepted) (λ r. is_accepted (reading_of r)) (λ t r. rw (zero_accepted r)) no_records rs (omega arith)) in
-    let c : after.refused ≡ (totals rs).refused = omega (arith, counted_all next_totals (λ t. t.refused) (λ r. not (is_accepted (reading_of r))) (λ t r. rw (zero_accepted r)) no_records rs (omega arith)) in
+    let b : after.accepted ≡ (totals rs).accepted = omega (arith, counted_all next_totals (λ t. t.accepted) (λ r. is_accepted (reading_of r)) (λ t r. rw (accepted_listed r)) no_records rs (omega arith)) in
+    let c : after.refused ≡ (totals rs).refused = omega (arith, counted_all next_totals (λ t. t.refused) (λ r. not (is_accepted (reading_of r))) (λ t r. rw (accepted_listed r)) no_records rs (omega arith)) in
     λ i. record { records = a i; accepted = b i; refused = c i }
 
 pub each_counted : (rs : List (List ℕ)) → (totals rs).accepted + (totals rs).refused ≡ (totals rs).records

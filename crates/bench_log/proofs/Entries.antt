@@ -4,14 +4,17 @@ use borrow.Author.Tests.{lt-leb}
 use Rattle.codec.proofs.Outcomes.{by_bool, and_true_lem}
 use Rattle.codec.proofs.Laws.{part_length}
 use Rattle.std.specs.Prelude.{Err, Ok}
-use Rattle.codec.specs.Refusal.{Checked, number_of}
+use Rattle.codec.specs.Refusal.{Checked}
+use Rattle.codec.specs.declared.refusal.Refusal.{Refusal}
 use Rattle.codec.specs.declared.refusal.Refusal.TheVariants.{BrokenRecord}
 use Rattle.codec.specs.Octets.{all_zero, part}
 use Rattle.codec.specs.Table.{message_limit}
 use Rattle.codec.specs.Message.{reading}
 use Rattle.codec.specs.Inner.Places.{Hears}
 use Rattle.codec.specs.declared.records.Heard.{Heard}
-use Rattle.bench_log.specs.LogRecord.{length_in, message_in, keeps_layout, Held, taken_apart, parts_of, reading_of, direction_of, entry_of}
+use Rattle.codec.specs.declared.records.Record.{Record}
+use Rattle.bench_log.specs.LogRecord.{length_in, message_in, keeps_layout, Held, taken_apart, parts_of, reading_of, listed, entry_of}
+use Rattle.bench_log.specs.declared.entry.Accepted.{Accepted}
 use Rattle.bench_log.specs.declared.layout.Parts.{Parts}
 
 module _ (limit : ℕ) (r : List ℕ) where
@@ -51,11 +54,11 @@ module _ (limit : ℕ) (r : List ℕ) where
   message_length : keeps_layout limit r ≡ true → length (message_in r) ≡ length_in r
   message_length e = part_length 4 (length_in r) r (omega (arith, (kept e).0, (kept e).1))
 
-  pub parts_broken : keeps_layout limit r ≡ false → record { refusal = number_of BrokenRecord; direction = 0; length = 0 } ≡ parts_of (taken_apart limit r)
+  pub parts_broken : keeps_layout limit r ≡ false → Err BrokenRecord ≡ parts_of (taken_apart limit r)
   unfolding taken_apart
   parts_broken e = rw e
 
-  pub parts_kept : keeps_layout limit r ≡ true → record { refusal = 0; direction = get_or r 0 0; length = length_in r } ≡ parts_of (taken_apart limit r)
+  pub parts_kept : keeps_layout limit r ≡ true → Ok (record { direction = get_or r 0 0; length = length_in r }) ≡ parts_of (taken_apart limit r)
   unfolding taken_apart
   parts_kept e = rw (e, message_length e)
 
@@ -65,39 +68,48 @@ module _ (limit : ℕ) (r : List ℕ) where
     pub fits : p.length ≤ limit
     pub holds : taken_apart limit r ≡ Ok (record { direction = p.direction; message = part 4 p.length r })
 
-  module _ (p : Parts) (e : p ≡ parts_of (taken_apart limit r)) where
-    pub apart : p.refusal ≡ 0 → Apart p
-    unfolding taken_apart
-    apart z =
-        by_bool (keeps_layout limit r)
-        (λ y.
-        let q = e ∙ sym (parts_kept y) in
-        record {
-          size = (kept y).0;
-          fits = omega (arith, ap (λ (p : Parts). p.length) q, (kept y).1);
-          holds = rw (y, q);
-        })
-        (λ n. let q = ap (λ (p : Parts). p.refusal) (e ∙ sym (parts_broken n)) in absurd (omega arith))
+  pub apart : (p : Parts) → Ok p ≡ parts_of (taken_apart limit r) → Apart p
+  unfolding taken_apart
+  apart p e =
+      by_bool (keeps_layout limit r)
+      (λ y.
+      let f : ◌≡◌ {A = Checked Parts} (Ok p) (Ok (record { direction = get_or r 0 0; length = length_in r })) = e ∙ sym (parts_kept y) in
+      let q : p ≡ record { direction = get_or r 0 0; length = length_in r } = cc in
+      record {
+        size = (kept y).0;
+        fits = omega (arith, ap (λ (p : Parts). p.length) q, (kept y).1);
+        holds = rw (y, q);
+      })
+      (λ n. let f : ◌≡◌ {A = Checked Parts} (Ok p) (Err BrokenRecord) = e ∙ sym (parts_broken n) in let z : ◌≡◌ {A = ℕ} 0 1 = cc in absurd (omega arith))
 
-    pub broken : (p.refusal ≡ 0 → ⊥) → taken_apart limit r ≡ Err BrokenRecord
-    unfolding taken_apart
-    broken z =
-        by_bool (keeps_layout limit r)
-        (λ y. absurd (z (ap (λ (p : Parts). p.refusal) (e ∙ sym (parts_kept y)))))
-        (λ n. rw n)
+  pub broken : (x : Refusal) → Err x ≡ parts_of (taken_apart limit r) → taken_apart limit r ≡ Err x
+  broken x e = go (taken_apart limit r) e
+    where
+      go : (c : Checked Held) → Err x ≡ parts_of c → c ≡ Err x
+      go (Err y) e = let q : x ≡ y = cc in rw q
+      go (Ok h) e = let z : ◌≡◌ {A = ℕ} 0 1 = cc in absurd (omega arith)
 
-module _ (r : List ℕ) (p : Parts) (e : p ≡ parts_of (taken_apart message_limit r)) where
-  pub entry_broken : (p.refusal ≡ 0 → ⊥) → record { direction = 0; refusal = p.refusal; id = 0; set = 0 } ≡ entry_of r
+module _ (r : List ℕ) where
+  pub entry_broken : (x : Refusal) → Err x ≡ parts_of (taken_apart message_limit r) → record { direction = 0; message = Err x } ≡ entry_of r
   unfolding entry_of reading_of
-  entry_broken z =
-      let b = broken message_limit r p e z in
-      let d : direction_of r ≡ 0 = ap (λ (q : Checked Held). (parts_of q).direction) b in
-      rw (d, ap (λ (p : Parts). p.refusal) e, b)
+  entry_broken x e = rw (broken message_limit r x e)
 
-  pub entry_heard : (h : Heard) → p.refusal ≡ 0 → Hears (reading (part 4 p.length r)) (part 4 p.length r) h
-      → record { direction = p.direction; refusal = h.refusal; id = h.id; set = h.set } ≡ entry_of r
+  pub entry_listed : (p : Parts) {c : Checked Accepted} → Ok p ≡ parts_of (taken_apart message_limit r) → c ≡ listed (reading (part 4 p.length r))
+      → record { direction = p.direction; message = c } ≡ entry_of r
   unfolding entry_of reading_of
-  entry_heard h z o =
-      let a = (apart message_limit r p e z).holds in
-      let d : direction_of r ≡ p.direction = ap (λ (q : Checked Held). (parts_of q).direction) a in
-      rw (d, a, o.refusal, o.id, o.set)
+  entry_listed p e l = rw ((apart message_limit r p e).holds, l)
+
+-- what is listed of a message that is heard, and of one that is not
+pub heard_listed : (m : List ℕ) (h : Heard) → Hears (reading m) m (Ok h) → Ok (record { id = h.id; set = h.set }) ≡ listed (reading m)
+heard_listed m h a = go (reading m) a
+  where
+    go : (c : Checked Record) → Hears c m (Ok h) → Ok (record { id = h.id; set = h.set }) ≡ listed c
+    go (Err x) q = let z : ◌≡◌ {A = ℕ} 0 1 = cc in absurd (omega arith)
+    go (Ok r) q = rw (q.id, q.set)
+
+pub refused_listed : (m : List ℕ) (x : Refusal) → Hears (reading m) m (Err x) → Err x ≡ listed (reading m)
+refused_listed m x a = go (reading m) a
+  where
+    go : (c : Checked Record) → Hears c m (Err x) → Err x ≡ listed c
+    go (Err y) q = let e : x ≡ y = cc in rw e
+    go (Ok r) q = absurd q

@@ -1,6 +1,6 @@
 -- Laws of lines: how long they are, and laying them out.
-use Rattle.std.proofs.Common.{◌≡◌, ℕ, ◌+◌, ◌-◌, ◌*◌, ◌<◌, ◌≤◌, eqb, List, length, subst, arith, length-append, eq-eqb, ne_eqb, eqb-true, le-leb}
-use borrow.Author.Tests.{lt-leb, eqb-false}
+use Rattle.std.proofs.Common.{◌≡◌, ℕ, ◌+◌, ◌-◌, ◌*◌, ◌<◌, eqb, List, length, subst, arith, length-append, le-leb}
+use borrow.Author.Tests.{lt-leb}
 use Rattle.codec.proofs.Outcomes.{by_bool}
 use Rattle.codec.specs.Refusal.{number_of}
 use Rattle.codec.specs.declared.refusal.Refusal.TheVariants.{BufferTooShort}
@@ -11,10 +11,9 @@ use Rattle.codec.specs.Octets.{part}
 use Rattle.bench_log.specs.LogRecord.{record_size, records_in, entry_of}
 use Rattle.bench_log.specs.Items.{Tells}
 use Rattle.bench_log.specs.Totals.{counted}
-use Rattle.bench_log.specs.Listing.{letter, verdict, line, last_line, listable, next_line, next_totals, Lists}
+use Rattle.bench_log.specs.Listing.{letter, line, last_line, listable, next_line, next_totals, Lists}
 use Rattle.bench_log.specs.declared.entry.Entry.{Entry}
 use Rattle.bench_log.specs.declared.totals.Totals.{Totals}
-use Rattle.bench_log.proofs.Decimals.{few_digits}
 use Rattle.bench_log.specs.Inner.Items.{SoFar}
 use Rattle.bench_log.proofs.Items.{one_told, all_told}
 use Rattle.bench_log.proofs.Records.{next_record}
@@ -24,27 +23,8 @@ pub last_line_length : (t : Totals) (tail : ℕ) → length (last_line t tail)
 unfolding last_line
 last_line_length t tail = simp length-append (omega arith)
 
-letter_length : (direction : ℕ) → length (letter direction) ≡ 3
+pub letter_length : (direction : ℕ) → length (letter direction) ≡ 3
 letter_length direction = by_bool (eqb direction 0) (λ z. rw z) (λ z. rw z)
-
-module _ (e : Entry) where
-  pub verdict_accepted : e.refusal ≡ 0 → length (verdict e) ≡ length (decimal e.id) + 1 + length (decimal e.set)
-  verdict_accepted z = rw (eq-eqb _ _ z) (simp length-append (omega arith))
-
-  pub verdict_refused : (e.refusal ≡ 0 → ⊥) → length (verdict e) ≡ 8 + length (decimal e.refusal)
-  verdict_refused z = rw (ne_eqb _ _ z) (simp length-append)
-
--- what a line says after the number
-pub entry_limit : (e : Entry) → e.refusal < 256 → e.id < 256 → e.set < 65536 → (length (letter e.direction) ≡ 3) × (3 + length (verdict e) + 1 ≤ 15)
-entry_limit e r i s =
-    let b = few_digits 2 e.refusal (omega arith) in
-    let c = few_digits 2 e.id (omega arith) in
-    let d = few_digits 4 e.set (omega arith) in (
-      letter_length e.direction,
-      by_bool (eqb e.refusal 0)
-          (λ z. let v = verdict_accepted e (eqb-true _ _ z) in omega arith)
-          (λ z. let v = verdict_refused e (eqb-false _ _ z) in omega arith),
-    )
 
 -- one record more is listed, as the code takes it
 pub one_listed : (piece : List ℕ) (i : ℕ) {t u v : Totals} {d b f : List ℕ} {n p : ℕ} (e : Entry) → SoFar next_line next_totals (records_in i piece) t d 0 u b n

@@ -8,7 +8,7 @@ use Rattle.codec.specs.Blocks.{Column, capabilities, configurations, cell}
 use Rattle.codec.specs.Table.{message_of, Row}
 use Rattle.codec.specs.Records.{StructOf, fields, column_in, of_record}
 use Rattle.codec.specs.Message.{id_of, set_of}
-use Rattle.codec.specs.Inner.Places.{Roomy, fields_at, column_at, column_found, record_at, Located}
+use Rattle.codec.specs.Inner.Places.{Roomy, fields_at, column_at, column_found, record_at, Placed}
 use Rattle.codec.specs.Inner.Puts.{Put}
 use Rattle.codec.proofs.Outcomes.{by_bool, and_true_lem}
 use Rattle.codec.proofs.Bits.{bit_low}
@@ -27,9 +27,9 @@ column_in_lem m places capabilities = refl
 column_in_lem m places configurations = refl
 
 -- the blocks of a column at places of a message
-module _ {m places : List ℕ} (l : Located m 0 places) (o : Octets m) (k : Column) (h : id_of m ≡ message_of k) (t : Technology) (n : names (known (set_of m)) t ≡ true) where
+module _ {m places : List ℕ} (l : Placed m places) (o : Octets m) (k : Column) (h : id_of m ≡ message_of k) (t : Technology) (n : names (known (set_of m)) t ≡ true) where
   block_there : Roomy (cell k t) 2 (drop (get_or places (technology_id t) 0) m)
-  block_there = l.there refl o k h t (sym (bit_low 4 (set_of m) (technology_id t) (technology_below t)) ∙ n)
+  block_there = l.there o k h t (sym (bit_low 4 (set_of m) (technology_id t) (technology_below t)) ∙ n)
 
   column_is : column_found m places k ≡ column_at k m places
   column_is = rw (eq-eqb (id_of m) (message_of k) h)

@@ -1,30 +1,29 @@
 -- What is seen of a log record, and what is shown of two.
-use Rattle.std.proofs.Common.{◌≡◌, ℕ, ◌+◌, ◌-◌, ◌≤◌, true, false, eqb, List, [], ◌∷◌, ◌++◌, map, length, sym, refl, ap, ◌∙◌, subst, append-nil, arith, length-append, eqb-true}
+use Rattle.std.proofs.Common.{◌≡◌, ℕ, ◌+◌, ◌-◌, ◌≤◌, true, false, eqb, List, [], ◌∷◌, ◌++◌, map, length, refl, ◌∙◌, append-nil, arith, length-append, eqb-true}
 use mathlib.Core.List.{flatten}
 use borrow.Author.Tests.{eqb-false}
 use Rattle.std.specs.Prelude.{Err, Ok}
-use Rattle.codec.specs.Refusal.{Checked, and_then}
+use Rattle.codec.specs.Refusal.{Checked, number_of}
+use Rattle.codec.specs.declared.refusal.Refusal.{Refusal}
 use Rattle.codec.specs.Octets.{Octets, part}
 use Rattle.codec.specs.Table.{message_limit}
-use Rattle.codec.specs.Records.{answer, accepted}
-use Rattle.codec.specs.Message.{parse, record_of, id_of, set_of, reading}
-use Rattle.codec.specs.Inner.Places.{number_in, record_at, Located}
+use Rattle.codec.specs.Records.{answer}
+use Rattle.codec.specs.Message.{reading}
+use Rattle.codec.specs.Inner.Places.{record_at}
 use Rattle.codec.specs.Inner.Puts.{Put}
 use Rattle.codec.specs.declared.records.Record.{Record}
-use Rattle.codec.specs.declared.records.Reading.{Reading}
-use Rattle.codec.proofs.Outcomes.{by_bool, no_zero}
+use Rattle.codec.proofs.Outcomes.{by_bool}
 use Rattle.codec.proofs.Puts.{put_then}
 use Rattle.codec.proofs.Laws.{octets_part}
-use Rattle.bench_log.specs.LogRecord.{Held, taken_apart, parts_of, reading_of, direction_of}
+use Rattle.bench_log.specs.LogRecord.{taken_apart, parts_of, reading_of, direction_of}
 use Rattle.bench_log.specs.Text.{ascii, decimal}
 use Rattle.bench_log.specs.Comparison.{same, Difference, difference, shown, is_same_reading, shown_contents, difference_line, difference_lines, pair_lines, pair_kind}
-use Rattle.bench_log.specs.Inner.Pairs.{direction_difference, head_differences, Holds, refusal_in, Sees}
+use Rattle.bench_log.specs.Inner.Pairs.{direction_difference, head_differences, refusal_in, Finds, Holds, SeesMessage, Sees}
 use Rattle.bench_log.specs.Inner.Differences.{read_differences, MessagesReady, messages_limit}
 use Rattle.bench_log.specs.declared.kinds.Kind.TheVariants.{SameReading, Different}
 use Rattle.bench_log.specs.declared.layout.Parts.{Parts}
 use Rattle.bench_log.specs.declared.found.Found.{Found}
 use Rattle.bench_log.specs.declared.pair.Seen.{Seen}
-use Rattle.std.specs.Prelude.{Result, Ok, Err, IfOk, IfErr}
 use Rattle.bench_log.proofs.Entries.{apart, broken}
 use Rattle.bench_log.proofs.Shown.{shown_from, shown_left, shown_right, shown_ids, shown_messages}
 use Rattle.bench_log.proofs.Differences.{lines_append}
@@ -32,70 +31,30 @@ use Rattle.bench_log.proofs.Readings.{same_exactly}
 
 -- ---- what is seen of a record
 
-read_number : (m : List ℕ) → (answer (reading m)).refusal ≡ number_in (parse m)
-unfolding reading
-read_number m = go (parse m)
-  where
-    go : (c : Checked (List (List ℕ))) → (answer (and_then c λ blocks. Ok (record_of (id_of m) (set_of m) blocks))).refusal ≡ number_in c
-    go (Err x) = refl
-    go (Ok blocks) = refl
-
-module _ (r : List ℕ) (p : Parts) (e : p ≡ parts_of (taken_apart message_limit r)) where
-  pub sees_broken : (p.refusal ≡ 0 → ⊥) → Sees r (record { direction = 0; message = Err p.refusal })
+module _ (r : List ℕ) where
+  pub sees_broken : (x : Refusal) → Err x ≡ parts_of (taken_apart message_limit r) → Sees r (record { direction = 0; message = Err x })
   unfolding reading_of
-  sees_broken z =
-      let b = broken message_limit r p e z in
-      record {
-        direction = sym (ap (λ (q : Checked Held). (parts_of q).direction) b);
-        refusal = ap (λ (p : Parts). p.refusal) e ∙ rw b;
-        refused = z;
-        holds = tt;
-      }
+  sees_broken x e = let b = broken message_limit r x e in record { direction = rw b; message = rw b }
 
-  module _ (z : p.refusal ≡ 0) {f : ℕ} {places : List ℕ} (l : Located (part 4 (4 + p.length - 4) r) f places) where
-    abbrev m : List ℕ
-    m = part 4 (4 + p.length - 4) r
+  pub sees_found : (p : Parts) → Ok p ≡ parts_of (taken_apart message_limit r) → (c : Checked Found) → Finds (part 4 (4 + p.length - 4) r) c
+      → Sees r (record { direction = p.direction; message = c })
+  unfolding reading_of
+  sees_found p e c f = record { direction = rw h; message = go c f }
+    where
+      h : taken_apart message_limit r ≡ Ok (record { direction = p.direction; message = part 4 p.length r })
+      h = (apart message_limit r p e).holds
 
-    to : p.direction ≡ direction_of r
-    to = sym (ap (λ (q : Checked Held). (parts_of q).direction) (apart message_limit r p e z).holds)
+      n : 4 + p.length - 4 ≡ p.length
+      n = omega arith
 
-    read : reading_of r ≡ reading m
-    unfolding reading_of
-    read = let n : 4 + p.length - 4 ≡ p.length = omega arith in rw ((apart message_limit r p e z).holds, n)
+      read : reading_of r ≡ reading (part 4 (4 + p.length - 4) r)
+      read = rw (h, n)
 
-    number : f ≡ (answer (reading_of r)).refusal
-    number = l.number ∙ sym (read_number m) ∙ ap (λ (c : Checked Record). (answer c).refusal) (sym read)
-
-    pub sees_refused : (f ≡ 0 → ⊥) → Sees r (record { direction = p.direction; message = Err f })
-    sees_refused y = record { direction = to; refusal = number; refused = y; holds = tt }
-
-    pub sees_found : (g : Found) → f ≡ 0 → g.message.now ≡ m → g.places ≡ places → Sees r (record { direction = p.direction; message = Ok g })
-    sees_found g y s t = record {
-      direction = to;
-      refusal = sym y ∙ number;
-      refused = tt;
-      holds = record {
-        size = 4 + p.length - 4;
-        message = s;
-        located = rw (s, t) (subst (λ (f : ℕ). Located m f places) y l);
-        read = rw s read;
-      };
-    }
+      go : (c : Checked Found) → Finds (part 4 (4 + p.length - 4) r) c → SeesMessage r c
+      go (Err x) f = read ∙ f
+      go (Ok g) f = record { size = 4 + p.length - 4; message = f.0; placed = rw f.0 f.1; read = rw f.0 read }
 
 -- ---- what is shown of two
-
--- the record of an accepted message
-read_accepted : (m places : List ℕ) → Located m 0 places → reading m ≡ Ok (record_at m places)
-read_accepted m places l = go (reading m) (l.reads refl)
-  where
-    go : (c : Checked Record) → accepted (record_at m places) ≡ answer c → c ≡ Ok (record_at m places)
-    go (Err x) e = absurd (no_zero x (sym (ap (λ (a : Reading). a.refusal) e)))
-    go (Ok b) e = ap Ok (sym (ap (λ (a : Reading). a.value) e))
-
-either_refused : (dl dr : ℕ) (l r : Checked Record) → (((answer l).refusal ≡ 0) × ((answer r).refusal ≡ 0) → ⊥) → shown_from dl l dr r ≡ head_differences dl dr (answer l).refusal (answer r).refusal
-either_refused dl dr (Err x) r n = shown_left dl dr x r
-either_refused dl dr (Ok a) (Err y) n = shown_right dl dr a y
-either_refused dl dr (Ok a) (Ok b) n = absurd (n (refl, refl))
 
 both_accepted : (dl dr : ℕ) (a b : Record) → shown_from dl (Ok a) dr (Ok b) ≡ direction_difference dl dr ++ read_differences a b
 unfolding read_differences
@@ -104,39 +63,47 @@ both_accepted dl dr a b =
     (λ y. shown_messages dl dr a b (eqb-true a.id b.id y) ∙ rw y)
     (λ n. shown_ids dl dr a b (eqb-false a.id b.id n) ∙ rw n)
 
+-- the number of the refusal, where there is one
+refusal_seen : (r : List ℕ) (c : Checked Found) → SeesMessage r c → (answer (reading_of r)).refusal ≡ refusal_in c
+refusal_seen r (Err x) f = rw f
+refusal_seen r (Ok p) f = rw (f.read ∙ f.placed.reads)
+
 module _ {l r : List ℕ} {s t : Seen} (x : Sees l s) (y : Sees r t) where
   abbrev heads : List Difference
   heads = head_differences s.direction t.direction (refusal_in s.message) (refusal_in t.message)
 
-  shown_heads : ((refusal_in s.message ≡ 0) × (refusal_in t.message ≡ 0) → ⊥) → shown l r ≡ heads
-  shown_heads n =
-      rw (x.direction, y.direction, x.refusal, y.refusal)
-      (either_refused (direction_of l) (direction_of r) (reading_of l) (reading_of r) (λ e. n (x.refusal ∙ e.0, y.refusal ∙ e.1)))
+  pub left_refused : {n : Refusal} → s.message ≡ Err n → shown l r ≡ heads
+  left_refused {n} e =
+      let f : reading_of l ≡ Err n = rw e at x.message in
+      rw (x.direction, y.direction, e, f, ← refusal_seen r t.message y.message) (shown_left (direction_of l) (direction_of r) n (reading_of r))
 
-  pub left_refused : {n : ℕ} → s.message ≡ Err n → shown l r ≡ heads
-  left_refused {n} e = shown_heads (λ z. subst (λ (m : Result Found ℕ). IfErr m (λ n. n ≡ 0 → ⊥)) e x.refused (ap refusal_in (sym e) ∙ z.0))
-
-  pub right_refused : {n : ℕ} → t.message ≡ Err n → shown l r ≡ heads
-  right_refused {n} e = shown_heads (λ z. subst (λ (m : Result Found ℕ). IfErr m (λ n. n ≡ 0 → ⊥)) e y.refused (ap refusal_in (sym e) ∙ z.1))
+  pub right_refused : {n : Refusal} → t.message ≡ Err n → shown l r ≡ heads
+  right_refused {n} e =
+      let f : reading_of r ≡ Err n = rw e at y.message in
+      rw (x.direction, y.direction, e, f, ← refusal_seen l s.message x.message) (go (reading_of l))
+    where
+      go : (c : Checked Record) → shown_from (direction_of l) c (direction_of r) (Err n) ≡ head_differences (direction_of l) (direction_of r) (answer c).refusal (number_of n)
+      go (Err m) = shown_left (direction_of l) (direction_of r) m (Err n)
+      go (Ok a) = shown_right (direction_of l) (direction_of r) a n
 
   module _ {f g : Found} (i : s.message ≡ Ok f) (j : t.message ≡ Ok g) where
     left : Holds l f
-    left = subst (λ (m : Result Found ℕ). IfOk m (λ f. Holds l f)) i x.holds
+    left = rw i at x.message
 
     right : Holds r g
-    right = subst (λ (m : Result Found ℕ). IfOk m (λ f. Holds r f)) j y.holds
+    right = rw j at y.message
 
     pub messages_ready : {d : List ℕ} {at : ℕ} → Octets l → Octets r → at + messages_limit ≤ length d → MessagesReady f.message.now f.places g.message.now g.places at d
     messages_ready o p room = record {
-      left = left.located;
-      right = right.located;
+      left = left.placed;
+      right = right.placed;
       octets = (rw left.message (octets_part 4 left.size l o), rw right.message (octets_part 4 right.size r p));
       room = room;
     }
 
     shown_read : shown l r ≡ direction_difference s.direction t.direction ++ read_differences (record_at f.message.now f.places) (record_at g.message.now g.places)
     shown_read =
-        rw (left.read ∙ read_accepted f.message.now f.places left.located, right.read ∙ read_accepted g.message.now g.places right.located, x.direction, y.direction)
+        rw (left.read ∙ left.placed.reads, right.read ∙ right.placed.reads, x.direction, y.direction)
         (both_accepted (direction_of l) (direction_of r) (record_at f.message.now f.places) (record_at g.message.now g.places))
 
     pub put_read : (n : ℕ) {d e h : List ℕ} {at p q : ℕ} → Put d at (difference_lines n heads) e p

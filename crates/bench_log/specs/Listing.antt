@@ -1,12 +1,15 @@
 -- The listing of a log: a line for each record, and the last line.
 use Rattle.std.specs.Prelude.{◌≡◌, ℕ, ◌*◌, ◌/◌, ◌%◌, ◌<◌, min, cond, List, ◌++◌, length, take, drop, ◌==◌}
 use Prim.Native.String.{String}
+use Rattle.std.specs.Prelude.{Err, Ok}
+use Rattle.codec.specs.Refusal.{Checked, number_of}
 use Rattle.codec.specs.Writing.{fitting, LaysOut}
 use Rattle.codec.specs.declared.records.Written.{Written}
 use Rattle.bench_log.specs.LogRecord.{record_size, records_in, whole_records, entry_of}
 use Rattle.bench_log.specs.Totals.{totals, counted}
 use Rattle.bench_log.specs.Items.{texts_from, Tells}
 use Rattle.bench_log.specs.Text.{ascii, decimal}
+use Rattle.bench_log.specs.declared.entry.Accepted.{Accepted}
 use Rattle.bench_log.specs.declared.entry.Entry.{Entry}
 use Rattle.bench_log.specs.declared.totals.Totals.{Totals}
 use Rattle.bench_log.specs.declared.listing.Listed.{Listed}
@@ -22,12 +25,13 @@ abbrev pub field : String → ℕ → List ℕ
 field word n = ascii word ++ decimal n
 
 -- ID and set, or the refusal's number
-abbrev pub verdict : Entry → List ℕ
-verdict e = cond (e.refusal == 0) (decimal e.id ++ field " " e.set) (field "refused " e.refusal)
+abbrev pub verdict : Checked Accepted → List ℕ
+verdict (Err x) = field "refused " (number_of x)
+verdict (Ok m) = decimal m.id ++ field " " m.set
 
 -- what a line says after the number
 abbrev pub entry_text : Entry → List ℕ
-entry_text e = letter e.direction ++ (verdict e ++ ascii "\n")
+entry_text e = letter e.direction ++ (verdict e.message ++ ascii "\n")
 
 unfoldable pub line : ℕ → Entry → List ℕ
 line n e = decimal n ++ entry_text e

@@ -2,12 +2,12 @@
 use Rattle.std.specs.Prelude.{ℕ, zero, suc, ◌+◌, ◌*◌, ◌/◌, Bool, ◌&&◌, List, [], ◌∷◌, ◌++◌, length, drop, ◌==◌, nat_le, nat_lt, slice_index}
 use Rattle.codec.specs.Octets.{all_zero, part, of_le}
 use Rattle.std.specs.Prelude.{Err, Ok}
-use Rattle.codec.specs.Refusal.{Checked, demand, and_then, number_of}
+use Rattle.codec.specs.Refusal.{Checked, demand, and_then}
 use Rattle.codec.specs.declared.refusal.Refusal.TheVariants.{BrokenRecord}
-use Rattle.codec.specs.Records.{answer}
 use Rattle.codec.specs.Table.{message_limit}
 use Rattle.codec.specs.Message.{reading}
 use Rattle.codec.specs.declared.records.Record.{Record}
+use Rattle.bench_log.specs.declared.entry.Accepted.{Accepted}
 use Rattle.bench_log.specs.declared.entry.Entry.{Entry}
 use Rattle.bench_log.specs.declared.layout.Parts.{Parts}
 
@@ -37,10 +37,10 @@ pub record Held : Type 0 where
 unfoldable pub taken_apart : ℕ → List ℕ → Checked Held
 taken_apart limit r = demand (keeps_layout limit r) BrokenRecord (Ok (record { direction = slice_index r 0; message = message_in r }))
 
--- as the code returns it: the refusal's number, or 0 with the direction and the length of the message, which follows the four octets
-abbrev pub parts_of : Checked Held → Parts
-parts_of (Err x) = record { refusal = number_of x; direction = 0; length = 0 }
-parts_of (Ok h) = record { refusal = 0; direction = h.direction; length = length h.message }
+-- as the code returns it: the message, which follows the four octets, by its length
+abbrev pub parts_of : Checked Held → Checked Parts
+parts_of (Err x) = Err x
+parts_of (Ok h) = Ok (record { direction = h.direction; length = length h.message })
 
 -- ---- the records of a log
 
@@ -61,10 +61,17 @@ unfoldable pub reading_of : List ℕ → Checked Record
 reading_of r = and_then (taken_apart message_limit r) λ h. reading h.message
 
 -- a broken record is taken for one to the tag
+abbrev pub direction_in : Checked Held → ℕ
+direction_in (Err x) = 0
+direction_in (Ok h) = h.direction
+
 abbrev pub direction_of : List ℕ → ℕ
-direction_of r = (parts_of (taken_apart message_limit r)).direction
+direction_of r = direction_in (taken_apart message_limit r)
+
+-- ID and set, or the refusal
+abbrev pub listed : Checked Record → Checked Accepted
+listed (Err x) = Err x
+listed (Ok r) = Ok (record { id = r.id; set = r.set })
 
 unfoldable pub entry_of : List ℕ → Entry
-entry_of r =
-    let a = answer (reading_of r) in
-    record { direction = direction_of r; refusal = a.refusal; id = a.value.id; set = a.value.set }
+entry_of r = record { direction = direction_of r; message = listed (reading_of r) }

@@ -1,5 +1,5 @@
 -- Totals: how many records a log has, and how many of them are accepted and refused.
-use Rattle.std.specs.Prelude.{ℕ, Bool, true, false, not, List, length, ◌==◌}
+use Rattle.std.specs.Prelude.{ℕ, Bool, true, false, not, List, length}
 use Rattle.std.specs.Prelude.{Err, Ok}
 use Rattle.codec.specs.Refusal.{Checked}
 use Rattle.bench_log.specs.LogRecord.{reading_of}
@@ -28,6 +28,6 @@ no_records = record { records = 0; accepted = 0; refused = 0 }
 unfoldable pub counted : Totals → Entry → Totals
 counted t e = record {
   records = tally true t.records;
-  accepted = tally (e.refusal == 0) t.accepted;
-  refused = tally (not (e.refusal == 0)) t.refused;
+  accepted = tally (is_accepted e.message) t.accepted;
+  refused = tally (not (is_accepted e.message)) t.refused;
 }

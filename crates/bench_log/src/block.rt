@@ -6,6 +6,7 @@ ghost use Rattle.codec.specs.Inner.Puts.{Put};
 ghost use Rattle.bench_log.specs.Comparison.{difference_lines};
 ghost use Rattle.bench_log.specs.Inner.BlockFields.{is_width, are_fields, field_differences, field_end, field_limit, FieldReady};
 ghost use Rattle.bench_log.specs.Inner.Differences.{column_by, technology_by};
+ghost use Rattle.bench_log.specs.declared.block.Field.TheVariants.{Counted};
 
 use crate::difference::Heading;
 use Field::{Counted, Number, Octets};
@@ -120,6 +121,35 @@ pub(crate) struct Reached {
     pub right: usize,
 }
 
+// The lines of a length and of what it counts, if they differ.
+fn put_counted(
+    out: &mut [u8],
+    from: Reached,
+    heading: Heading,
+    length: &'static [u8],
+    name: &'static [u8],
+    left: &[u8],
+    right: &[u8],
+) -> Reached
+    requires { FieldReady heading.technology.now (Counted length name) left.now from.left right.now from.right from.out out.old }
+    ensures text { Put out.old from.out (difference_lines heading.number (field_differences heading.technology.now (Counted length.entry name.entry) left.now from.left right.now from.right)) out.new result.out }
+    ensures limit { result.out ≤ from.out + field_limit (Counted length.entry name.entry) left.now from.left right.now from.right }
+    ensures read { (result.left ≡ field_end (Counted length.entry name.entry) from.left left.now) × (result.right ≡ field_end (Counted length.entry name.entry) from.right right.now) }
+{
+    let m = left[from.left];
+    let n = right[from.right];
+    let next = heading.put_numbers(out, from.out, length, u64::from(m), u64::from(n));
+    let a = from.left + 1 + usize::from(m);
+    let b = from.right + 1 + usize::from(n);
+    let x = &left[from.left + 1..a];
+    let y = &right[from.right + 1..b];
+    Reached {
+        out: heading.put_strings(out, next, name, x, y),
+        left: a,
+        right: b,
+    }
+}
+
 // The lines of a field, if it differs.
 pub(crate) fn put_field(
     out: &mut [u8],
@@ -155,19 +185,6 @@ pub(crate) fn put_field(
                 right: b,
             }
         }
-        Counted(length, name) => {
-            let m = left[from.left];
-            let n = right[from.right];
-            let next = heading.put_numbers(out, from.out, length, u64::from(m), u64::from(n));
-            let a = from.left + 1 + usize::from(m);
-            let b = from.right + 1 + usize::from(n);
-            let x = &left[from.left + 1..a];
-            let y = &right[from.right + 1..b];
-            Reached {
-                out: heading.put_strings(out, next, name, x, y),
-                left: a,
-                right: b,
-            }
-        }
+        Counted(length, name) => put_counted(out, from, heading, length, name, left, right),
     }
 }

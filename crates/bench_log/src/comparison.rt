@@ -15,8 +15,7 @@ use crate::layout::RECORD_SIZE;
 use crate::listing::{put_entry, put_field};
 use crate::pair::put_pair;
 use crate::text::{decimal_length, put, put_number, put_text};
-use codec::Written;
-use codec::refusal::BUFFER_TOO_SHORT;
+use codec::{Refusal, Written};
 
 // The lines of no position take more octets: those of all fields of two Configurations, with the longest numbers, keys and names.
 pub const POSITION_LIMIT: usize = 2560;
@@ -178,7 +177,7 @@ pub fn sum_line(kinds: Kinds, left: u64, right: u64, out: &mut [u8]) -> Written
 {
     if out.len() < pairs_length(kinds) + rest_length(kinds, left, right) {
         return Written {
-            refusal: BUFFER_TOO_SHORT,
+            refusal: u8::from(Refusal::BufferTooShort),
             length: 0,
         };
     }

@@ -2,16 +2,14 @@
 ghost use Rattle.std.specs.Prelude.{◌≡◌, ◌≤◌, length};
 ghost use Rattle.bench_log.specs.LogRecord.{length_in, keeps_layout, taken_apart, parts_of};
 
-use codec::MESSAGE_LIMIT;
-use codec::refusal::BROKEN_RECORD;
+use codec::{MESSAGE_LIMIT, Refusal};
 
 // A record is a head of four octets and room for the longest message.
 pub const RECORD_SIZE: usize = 4 + MESSAGE_LIMIT;
 
-// A record taken apart: its direction, and how many octets after the head are its message; or the number of its refusal, and 0.
+// A record taken apart: its direction, and how many octets after the head are its message.
 #[derive(Clone, Copy)]
 pub struct Parts {
-    pub refusal: u8,
     pub direction: u8,
     pub length: usize,
 }
@@ -48,19 +46,14 @@ fn keeps_layout(octets: &[u8], limit: usize) -> bool
 }
 
 // Takes a record apart, in a log of messages that have at most `limit` octets. Octets that are no record's break the layout.
-pub fn take_apart(octets: &[u8], limit: usize) -> Parts
+pub fn take_apart(octets: &[u8], limit: usize) -> Result<Parts, Refusal>
     ensures { result ≡ parts_of (taken_apart limit octets.now) }
 {
     if !keeps_layout(octets, limit) {
-        return Parts {
-            refusal: BROKEN_RECORD,
-            direction: 0,
-            length: 0,
-        };
+        return Err(Refusal::BrokenRecord);
     }
-    Parts {
-        refusal: 0,
+    Ok(Parts {
         direction: octets[0],
         length: length_in(octets),
-    }
+    })
 }

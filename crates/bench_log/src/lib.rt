@@ -17,7 +17,7 @@ mod text;
 mod totals;
 
 pub use comparison::{Compared, POSITION_LIMIT, compare, sum_line};
-pub use entry::{Entry, entry_of};
+pub use entry::{Accepted, Entry, entry_of};
 pub use kinds::Kinds;
 pub use layout::{Parts, RECORD_SIZE, take_apart};
 pub use listing::{LINE_LIMIT, Listed, last_line, list};

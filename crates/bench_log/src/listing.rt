@@ -5,12 +5,11 @@ ghost use Rattle.codec.specs.Writing.{fitting, LaysOut};
 ghost use Rattle.bench_log.specs.Text.{decimal};
 ghost use Rattle.bench_log.specs.Listing.{letter, verdict, entry_text, line, last_line, line_limit, Lists};
 
-use crate::entry::{Entry, entry_of};
+use crate::entry::{Accepted, Entry, entry_of};
 use crate::layout::RECORD_SIZE;
 use crate::text::{decimal_length, put, put_decimal, put_number, put_text};
 use crate::totals::Totals;
-use codec::Written;
-use codec::refusal::BUFFER_TOO_SHORT;
+use codec::{Refusal, Written};
 
 // No line of a record is longer: 20 digits, a letter between spaces, `refused 255` and the newline.
 pub const LINE_LIMIT: usize = 35;
@@ -43,15 +42,17 @@ pub(crate) fn put_field(out: &mut [u8], at: usize, word: &[u8], n: u64) -> usize
 }
 
 // ID and set, or the refusal's number.
-fn put_verdict(out: &mut [u8], at: usize, e: Entry) -> usize
-    requires { at + length (verdict e) ≤ length out.old }
-    ensures { Put out.old at (verdict e) out.new result }
+fn put_verdict(out: &mut [u8], at: usize, message: Result<Accepted, Refusal>) -> usize
+    requires { at + 11 ≤ length out.old }
+    ensures { Put out.old at (verdict message) out.new result × (result ≤ at + 11) }
 {
-    if e.refusal == 0 {
-        let set = put_decimal(out, at, u64::from(e.id));
-        return put_field(out, set, b" ", u64::from(e.set));
+    match message {
+        Ok(accepted) => {
+            let set = put_decimal(out, at, u64::from(accepted.id));
+            put_field(out, set, b" ", u64::from(accepted.set))
+        }
+        Err(refusal) => put_field(out, at, b"refused ", u64::from(u8::from(refusal))),
     }
-    put_field(out, at, b"refused ", u64::from(e.refusal))
 }
 
 // What a line says after the number.
@@ -60,7 +61,7 @@ pub(crate) fn put_entry(out: &mut [u8], at: usize, e: Entry) -> usize
     ensures { Put out.old at (entry_text e) out.new result × (result ≤ at + 15) }
 {
     let verdict = put_letter(out, at, e.direction);
-    let end = put_verdict(out, verdict, e);
+    let end = put_verdict(out, verdict, e.message);
     put(out, end, b'\n')
 }
 
@@ -119,7 +120,7 @@ pub fn last_line(totals: Totals, tail: u64, out: &mut [u8]) -> Written
 {
     if out.len() < last_line_length(totals, tail) {
         return Written {
-            refusal: BUFFER_TOO_SHORT,
+            refusal: u8::from(Refusal::BufferTooShort),
             length: 0,
         };
     }

@@ -4,7 +4,7 @@ ghost use Rattle.codec.specs.Octets.{Octets};
 ghost use Rattle.codec.specs.Inner.Puts.{Put};
 ghost use Rattle.bench_log.specs.Text.{decimal};
 ghost use Rattle.bench_log.specs.Comparison.{shown, difference_lines, pair_lines, pair_kind, position_limit};
-ghost use Rattle.bench_log.specs.Inner.Pairs.{Sees, refusal_in, head_differences};
+ghost use Rattle.bench_log.specs.Inner.Pairs.{Finds, Sees, refusal_in, head_differences};
 
 use crate::difference::Heading;
 use crate::found::Found;
@@ -13,38 +13,36 @@ use crate::layout::take_apart;
 use crate::messages::put_messages;
 use crate::same::same;
 use crate::text::{put_number, put_text};
-use codec::MESSAGE_LIMIT;
+use codec::{MESSAGE_LIMIT, Refusal};
 
-// What is seen of a record: its direction, and its message or the number of its refusal.
+// What is seen of a record: its direction, and its message.
 #[derive(Clone, Copy)]
 pub(crate) struct Seen<'a> {
     direction: u8,
-    message: Result<Found<'a>, u8>,
+    message: Result<Found<'a>, Refusal>,
+}
+
+// What is found of a message.
+fn find(message: &[u8]) -> Result<Found<'_>, Refusal>
+    ensures { Finds message.now result }
+{
+    let places = codec::find(message)?;
+    Ok(Found::new(message, places))
 }
 
 impl<'a> Seen<'a> {
     fn of(octets: &'a [u8]) -> Seen<'a>
         ensures { Sees octets.now result }
     {
-        let parts = take_apart(octets, MESSAGE_LIMIT);
-        if parts.refusal != 0 {
-            return Seen {
+        match take_apart(octets, MESSAGE_LIMIT) {
+            Err(refusal) => Seen {
                 direction: 0,
-                message: Err(parts.refusal),
-            };
-        }
-        let end = 4 + parts.length;
-        let message = &octets[4..end];
-        let found = codec::find(message);
-        if found.fault != 0 {
-            return Seen {
+                message: Err(refusal),
+            },
+            Ok(parts) => Seen {
                 direction: parts.direction,
-                message: Err(found.fault),
-            };
-        }
-        Seen {
-            direction: parts.direction,
-            message: Ok(Found::new(message, found.places)),
+                message: find(&octets[4..4 + parts.length]),
+            },
         }
     }
 
@@ -54,7 +52,7 @@ impl<'a> Seen<'a> {
     {
         match self.message {
             Ok(_) => 0,
-            Err(number) => number,
+            Err(refusal) => u8::from(refusal),
         }
     }
 }

@@ -22,15 +22,15 @@ impl Totals {
             records: self.records.wrapping_add(1),
             ..self
         };
-        if e.refusal == 0 {
-            return Totals {
+        match e.message {
+            Ok(_) => Totals {
                 accepted: self.accepted.wrapping_add(1),
                 ..all
-            };
-        }
-        Totals {
-            refused: self.refused.wrapping_add(1),
-            ..all
+            },
+            Err(_) => Totals {
+                refused: self.refused.wrapping_add(1),
+                ..all
+            },
         }
     }
 }

@@ -8,7 +8,7 @@ use Rattle.codec.specs.Layout.{Layout, number, octets, counted, Values, value}
 use Rattle.codec.specs.Blocks.{Column, capabilities, configurations, cell}
 use Rattle.codec.specs.Records.{of_record}
 use Rattle.codec.specs.Table.{row}
-use Rattle.codec.specs.Inner.Places.{Roomy, Located}
+use Rattle.codec.specs.Inner.Places.{Roomy, Placed}
 use Rattle.codec.specs.declared.records.Record.{Record}
 use Rattle.bench_log.specs.Text.{ascii}
 use Rattle.bench_log.specs.Fields.{amount, string, prefix, message_id_name, presence}
@@ -98,7 +98,7 @@ abbrev pub messages_limit : ℕ
 messages_limit = 2304
 
 pub record MessagesReady (l places r others : List ℕ) (at : ℕ) (d : List ℕ) : Type 0 where
-  pub left : Located l 0 places
-  pub right : Located r 0 others
+  pub left : Placed l places
+  pub right : Placed r others
   pub octets : Octets l × Octets r
   pub room : at + messages_limit ≤ length d

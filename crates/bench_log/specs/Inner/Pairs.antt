@@ -1,9 +1,10 @@
 -- What is seen of a log record, and what differs in the heads of two.
-use Rattle.std.specs.Prelude.{◌≡◌, ℕ, List, ◌++◌, Result, Ok, Err, IfOk, IfErr}
+use Rattle.std.specs.Prelude.{◌≡◌, ℕ, List, ◌++◌}
 use Rattle.codec.specs.Octets.{part}
-use Rattle.codec.specs.Records.{answer}
+use Rattle.std.specs.Prelude.{Err, Ok}
+use Rattle.codec.specs.Refusal.{Checked, number_of}
 use Rattle.codec.specs.Message.{reading}
-use Rattle.codec.specs.Inner.Places.{Located}
+use Rattle.codec.specs.Inner.Places.{Placed}
 use Rattle.bench_log.specs.LogRecord.{reading_of, direction_of}
 use Rattle.bench_log.specs.Text.{ascii}
 use Rattle.bench_log.specs.Fields.{amount, direction_name, refusal_name}
@@ -19,22 +20,30 @@ direction_difference left right = difference direction_name (amount left) (amoun
 abbrev pub head_differences : (left right refusal other : ℕ) → List Difference
 head_differences left right refusal other = direction_difference left right ++ difference refusal_name (amount refusal) (amount other)
 
--- the message of an accepted record, which follows the head
+-- the refusal's number, or 0
+abbrev pub refusal_in : {A : Type 0} → Checked A → ℕ
+refusal_in (Err x) = number_of x
+refusal_in (Ok a) = 0
+
+-- the refusal of a message, or its octets and the places of its blocks
+abbrev pub Finds : List ℕ → Checked Found → Type 0
+Finds m (Err x) = reading m ≡ Err x
+Finds m (Ok f) = (f.message.now ≡ m) × Placed m f.places
+
+-- the same of a record's message, which follows the head
 pub record Holds (r : List ℕ) (f : Found) : Type 0 where
   pub size : ℕ
   pub message : f.message.now ≡ part 4 size r
-  pub located : Located f.message.now 0 f.places
+  pub placed : Placed f.message.now f.places
   pub read : reading_of r ≡ reading f.message.now
 
-abbrev pub refusal_in : Result Found ℕ → ℕ
-refusal_in (Ok f) = 0
-refusal_in (Err n) = n
+abbrev pub SeesMessage : List ℕ → Checked Found → Type 0
+SeesMessage r (Err x) = reading_of r ≡ Err x
+SeesMessage r (Ok f) = Holds r f
 
 pub record Sees (r : List ℕ) (s : Seen) : Type 0 where
   pub direction : s.direction ≡ direction_of r
-  pub refusal : refusal_in s.message ≡ (answer (reading_of r)).refusal
-  pub refused : IfErr s.message (λ n. n ≡ 0 → ⊥)
-  pub holds : IfOk s.message (λ f. Holds r f)
+  pub message : SeesMessage r s.message
 
 -- a record that only one log has, with the words after its number
 abbrev pub only_on : Side → List ℕ → Position

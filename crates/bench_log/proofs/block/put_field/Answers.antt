@@ -1,9 +1,5 @@
-use Rattle.std.proofs.Common.{◌≡◌, ◌+◌, ◌-◌, arith, get_or}
-use Rattle.codec.proofs.Puts.{put_then}
-use Rattle.bench_log.specs.Comparison.{difference}
-use Rattle.bench_log.specs.Fields.{amount}
+use Rattle.std.proofs.Common.{◌≡◌, ◌+◌, ◌-◌, arith}
 use Rattle.bench_log.specs.Inner.BlockFields.{field_differences}
-use Rattle.bench_log.proofs.Differences.{lines_append}
 use Rattle.bench_log.proofs.block.put_field.Goals as goal
 
 pub returns-in-Number-clause-text : goal.returns-in-Number-clause-text
@@ -18,13 +14,8 @@ returns-in-Octets-clause-text c =
     let b : c.args.from.right + n - c.args.from.right ≡ n = omega arith in
     rw c.in-Octets.is (rw (a, b) at c.put_strings.ensures.text)
 
-pub returns-in-Counted-clause-text : goal.returns-in-Counted-clause-text
-unfolding field_differences
-returns-in-Counted-clause-text c =
-    let s = c.args in
-    let m = get_or s.left.now s.from.left 0 in
-    let n = get_or s.right.now s.from.right 0 in
-    let a : s.from.left + 1 + m - (s.from.left + 1) ≡ m = omega arith in
-    let b : s.from.right + 1 + n - (s.from.right + 1) ≡ n = omega arith in
-    rw (c.in-Counted.is, lines_append s.heading.number (difference _ (amount m) (amount n)) _)
-    (put_then (rw (c.from.ensures, c.from-in-Counted.ensures) at c.put_numbers-next.ensures.text) (rw (c.from-in-Counted-2.ensures, c.from-in-Counted-3.ensures, a, b) at c.put_strings-in-Counted.ensures.text))
+pub put_counted-requires : goal.put_counted-requires
+put_counted-requires c = rw c.in-Counted.is at c.requires
+
+pub returns-in-Counted : goal.returns-in-Counted
+returns-in-Counted c = rw c.in-Counted.is c.put_counted.ensures
