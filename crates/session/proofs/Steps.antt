@@ -14,7 +14,7 @@ use Rattle.codec.specs.Refusal.{Checked, demand, and_then, number_of}
 use Rattle.codec.specs.declared.refusal.Refusal.{Refusal}
 use Rattle.codec.specs.declared.refusal.Refusal.TheVariants.{NotForTag, NotValid}
 use Rattle.codec.specs.Blocks.{capabilities, configurations, cell}
-use Rattle.codec.specs.Records.{blank, response, only, set_record, answer, fields}
+use Rattle.codec.specs.Records.{blank, response, only, set_record, fields}
 use Rattle.codec.specs.Message.{reading}
 use Rattle.codec.specs.Inner.Places.{settings_at, Hears}
 use Rattle.codec.specs.NormalForm.{normal}
@@ -25,7 +25,7 @@ use Rattle.codec.specs.declared.records.Record.{Record}
 use Rattle.codec.specs.declared.records.Heard.{Heard}
 use Rattle.codec.specs.declared.records.SetMessage.{SetMessage}
 use Rattle.codec.specs.declared.records.Written.{Written}
-use Rattle.codec.proofs.Outcomes.{by_bool, and_true_lem, no_zero}
+use Rattle.codec.proofs.Outcomes.{by_bool, and_true_lem}
 use Rattle.codec.proofs.Every.{a_technology, every_at, every_all}
 use Rattle.codec.proofs.ValidCases.{response_valid, used_fields, only_valid, set_valid, response_of}
 use Rattle.session.specs.declared.state.Profile.{Profile}
