@@ -7,7 +7,12 @@ mod show;
 
 use std::io;
 
-fn main(rt: HostRuntime) -> io::Result<()> {
-    messages::run(&rt)?;
-    sessions::run(&rt)
+fn run(rt: &impl Print) -> io::Result<()> {
+    messages::run(rt)?;
+    sessions::run(rt)
+}
+
+fn main(rt: HostRuntime) {
+    // what cannot be printed is compared and found missing
+    let _ = run(&rt);
 }
