@@ -96,7 +96,7 @@ pub fn read(message: &[u8]) -> Reading
 {
     let places = match find(message) {
         Ok(places) => places,
-        Err(refusal) => return refused(refusal),
+        Err(refusal) => return refused(u8::from(refusal)),
     };
     read_at(message, &places)
 }

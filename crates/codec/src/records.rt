@@ -1,7 +1,6 @@
 // Records: what a message says, and the reader's answer.
 ghost use Rattle.std.specs.Prelude.{◌≡◌};
 ghost use Rattle.codec.specs.Blocks.{capabilities, configurations};
-ghost use Rattle.codec.specs.Refusal.{number_of};
 ghost use Rattle.codec.specs.Records.{message_id, refused};
 
 use crate::blocks::fault_by_id;
@@ -184,14 +183,14 @@ impl Column for Configuration {
     }
 }
 
-// A refusal, as `read` gives it.
-pub fn refused(refusal: Refusal) -> Reading
-    ensures { result ≡ refused (number_of refusal) }
+// A refusal by its number, as `read` gives it.
+pub fn refused(number: u8) -> Reading
+    ensures { result ≡ refused number }
 {
     let capability = zero();
     let configuration = zero();
     Reading {
-        refusal: u8::from(refusal),
+        refusal: number,
         value: Record {
             id: 0,
             set: 0,

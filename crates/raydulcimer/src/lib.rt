@@ -21,7 +21,7 @@ pub extern "C" fn raydulcimer_read(message: &[u8]) -> Reading
 {
     let places = match codec::find(message) {
         Ok(places) => places,
-        Err(refusal) => return codec::refused(refusal),
+        Err(refusal) => return codec::refused(u8::from(refusal)),
     };
     let id = message[1];
     let set = message[2] as u16 % SET_LIMIT;
