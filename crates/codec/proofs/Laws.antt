@@ -3,6 +3,7 @@ use Prim.Native.Nat.{ℕ, zero, suc, ◌+◌, ◌-◌, ◌*◌, ◌/◌, ◌%◌
 use mathlib.Core.Path.{◌≡◌, refl, sym, ap, ◌∙◌}
 use mathlib.Core.Bool.{◌&&◌, and_assoc, and-true}
 use Rattle.std.specs.List.{fold}
+use Rattle.std.specs.Simd.{first_chunks}
 use Rattle.std.specs.Int.Bits.{bit_or}
 use Rattle.std.specs.Int.{w16, w32, from_le_bytes, to_le_bytes}
 use Rattle.std.proofs.lemmas.Nat.{le_or_l}
@@ -106,6 +107,30 @@ pub zero_together : (l : List ℕ) (a : ℕ) → eqb (fold bit_or a l) 0 ≡ (eq
 unfolding all_zero
 zero_together [] a = sym (and-true (eqb a 0))
 zero_together (x ∷ l) a = zero_together l (bit_or a x) ∙ rw (or_zero a x, and_assoc (eqb a 0) (eqb x 0) (all_zero l))
+
+-- four octets, taken as one number, and those after them
+four_zero : (x y z t : ℕ) (r : List ℕ) → (eqb (from_le_bytes w32 (x ∷ (y ∷ (z ∷ (t ∷ []))))) 0 && all_zero r) ≡ all_zero (x ∷ (y ∷ (z ∷ (t ∷ r))))
+unfolding all_zero
+four_zero zero zero zero zero r = refl
+four_zero (suc x) y z t r =
+    rw (ne_eqb (from_le_bytes w32 (suc x ∷ (y ∷ (z ∷ (t ∷ []))))) 0 (λ e. omega arith), ne_eqb (suc x) 0 (λ e. omega arith))
+four_zero zero (suc y) z t r =
+    rw (ne_eqb (from_le_bytes w32 (0 ∷ (suc y ∷ (z ∷ (t ∷ []))))) 0 (λ e. omega arith), ne_eqb (suc y) 0 (λ e. omega arith))
+four_zero zero zero (suc z) t r =
+    rw (ne_eqb (from_le_bytes w32 (0 ∷ (0 ∷ (suc z ∷ (t ∷ []))))) 0 (λ e. omega arith), ne_eqb (suc z) 0 (λ e. omega arith))
+four_zero zero zero zero (suc t) r =
+    rw (ne_eqb (from_le_bytes w32 (0 ∷ (0 ∷ (0 ∷ (suc t ∷ []))))) 0 (λ e. omega arith), ne_eqb (suc t) 0 (λ e. omega arith))
+
+pub fours_zero : (k : ℕ) (s : List ℕ) (a : ℕ) → k * 4 ≤ length s → (eqb (fold (λ any four. bit_or any (from_le_bytes w32 four)) a (first_chunks 4 k s)) 0 && all_zero (drop (k * 4) s)) ≡ (eqb a 0 && all_zero s)
+fours_zero zero s a h = refl
+fours_zero (suc k) [] a h = absurd (omega arith)
+fours_zero (suc k) (x ∷ []) a h = absurd (omega arith)
+fours_zero (suc k) (x ∷ y ∷ []) a h = absurd (omega arith)
+fours_zero (suc k) (x ∷ y ∷ z ∷ []) a h = absurd (omega arith)
+fours_zero (suc k) (x ∷ y ∷ z ∷ t ∷ r) a h =
+    let n = from_le_bytes w32 (x ∷ (y ∷ (z ∷ (t ∷ [])))) in
+    let e : suc k * 4 ≡ suc (suc (suc (suc (k * 4)))) = omega arith in
+    rw (e, fours_zero k r (bit_or a n) (omega arith), or_zero a n, and_assoc (eqb a 0) (eqb n 0) (all_zero r), four_zero x y z t r)
 
 -- numbers as std makes them of octets
 module _ (at : ℕ) (s : List ℕ) where
