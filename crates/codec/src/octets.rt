@@ -49,15 +49,20 @@ pub(crate) fn padded_at<const N: usize>(s: &[u8], at: usize, n: usize) -> [u8; N
     out
 }
 
-// Whether all octets are zero, four of them as one number, and then those left. It looks at every one, with no early end.
+// Whether all octets are zero: four at a time, as one number, then two, then one. It looks at every one, so that the machine
+// code of short arrays takes no single octets.
 pub fn all_zero(s: &[u8]) -> bool
     ensures { result ≡ all_zero s.now }
 {
     let (fours, rest) = s.as_chunks::<4>();
-    let whole = fours
+    let (twos, last) = rest.as_chunks::<2>();
+    let first = fours
         .iter()
         .fold(0, |any, four| any | u32::from_le_bytes(*four));
-    (whole == 0) & (rest.iter().fold(0, |any, octet| any | *octet) == 0)
+    let second = twos
+        .iter()
+        .fold(0, |any, two| any | u16::from_le_bytes(*two));
+    (first == 0) & ((second == 0) & (last.iter().fold(0, |any, octet| any | *octet) == 0))
 }
 
 // Whether all octets from a place on are zero: those past a key or a name.
