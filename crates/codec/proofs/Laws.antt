@@ -3,6 +3,7 @@ use Prim.Native.Nat.{ℕ, zero, suc, ◌+◌, ◌-◌, ◌*◌, ◌/◌, ◌%◌
 use mathlib.Core.Path.{◌≡◌, refl, sym, ap, ◌∙◌}
 use mathlib.Core.Bool.{◌&&◌, and_assoc, and-true}
 use Rattle.std.specs.List.{fold}
+use Rattle.std.specs.Simd.{first_chunks}
 use Rattle.std.specs.Int.Bits.{bit_or}
 use Rattle.std.specs.Int.{w16, w32, from_le_bytes, to_le_bytes}
 use Rattle.std.proofs.lemmas.Nat.{le_or_l}
@@ -106,6 +107,52 @@ pub zero_together : (l : List ℕ) (a : ℕ) → eqb (fold bit_or a l) 0 ≡ (eq
 unfolding all_zero
 zero_together [] a = sym (and-true (eqb a 0))
 zero_together (x ∷ l) a = zero_together l (bit_or a x) ∙ rw (or_zero a x, and_assoc (eqb a 0) (eqb x 0) (all_zero l))
+
+-- octets, some of them taken as one number, and those after them
+two_zero : (s : List ℕ) → 2 ≤ length s → (eqb (from_le_bytes w16 (take 2 s)) 0 && all_zero (drop 2 s)) ≡ all_zero s
+unfolding all_zero
+two_zero [] h = absurd (omega arith)
+two_zero (x ∷ []) h = absurd (omega arith)
+two_zero (zero ∷ zero ∷ r) h = refl
+two_zero (suc x ∷ y ∷ r) h =
+    rw (ne_eqb (from_le_bytes w16 (suc x ∷ (y ∷ []))) 0 (λ e. omega arith), ne_eqb (suc x) 0 (λ e. omega arith))
+two_zero (zero ∷ suc y ∷ r) h =
+    rw (ne_eqb (from_le_bytes w16 (0 ∷ (suc y ∷ []))) 0 (λ e. omega arith), ne_eqb (suc y) 0 (λ e. omega arith))
+
+four_zero : (s : List ℕ) → 4 ≤ length s → (eqb (from_le_bytes w32 (take 4 s)) 0 && all_zero (drop 4 s)) ≡ all_zero s
+unfolding all_zero
+four_zero [] h = absurd (omega arith)
+four_zero (x ∷ []) h = absurd (omega arith)
+four_zero (x ∷ y ∷ []) h = absurd (omega arith)
+four_zero (x ∷ y ∷ z ∷ []) h = absurd (omega arith)
+four_zero (zero ∷ zero ∷ zero ∷ zero ∷ r) h = refl
+four_zero (suc x ∷ y ∷ z ∷ t ∷ r) h =
+    rw (ne_eqb (from_le_bytes w32 (suc x ∷ (y ∷ (z ∷ (t ∷ []))))) 0 (λ e. omega arith), ne_eqb (suc x) 0 (λ e. omega arith))
+four_zero (zero ∷ suc y ∷ z ∷ t ∷ r) h =
+    rw (ne_eqb (from_le_bytes w32 (0 ∷ (suc y ∷ (z ∷ (t ∷ []))))) 0 (λ e. omega arith), ne_eqb (suc y) 0 (λ e. omega arith))
+four_zero (zero ∷ zero ∷ suc z ∷ t ∷ r) h =
+    rw (ne_eqb (from_le_bytes w32 (0 ∷ (0 ∷ (suc z ∷ (t ∷ []))))) 0 (λ e. omega arith), ne_eqb (suc z) 0 (λ e. omega arith))
+four_zero (zero ∷ zero ∷ zero ∷ suc t ∷ r) h =
+    rw (ne_eqb (from_le_bytes w32 (0 ∷ (0 ∷ (0 ∷ (suc t ∷ []))))) 0 (λ e. omega arith), ne_eqb (suc t) 0 (λ e. omega arith))
+
+-- and so many times
+chunks_zero : (m : ℕ) (f : List ℕ → ℕ) → ((s : List ℕ) → m ≤ length s → (eqb (f (take m s)) 0 && all_zero (drop m s)) ≡ all_zero s)
+    → (k : ℕ) (s : List ℕ) (a : ℕ) → k * m ≤ length s → (eqb (fold (λ any c. bit_or any (f c)) a (first_chunks m k s)) 0 && all_zero (drop (k * m) s)) ≡ (eqb a 0 && all_zero s)
+chunks_zero m f z zero s a h =
+    let e : 0 * m ≡ 0 = omega arith in
+    rw e
+chunks_zero m f z (suc k) s a h =
+    let n = f (take m s) in
+    let u : m + k * m ≤ length s = omega arith in
+    let e : suc k * m ≡ m + k * m = omega arith in
+    let v : k * m ≤ length (drop m s) = rw (length-drop m s) (omega arith) in
+    rw (e, sym (drop-drop (k * m) m s), chunks_zero m f z k (drop m s) (bit_or a n) v, or_zero a n, and_assoc (eqb a 0) (eqb n 0) (all_zero (drop m s)), z s (omega arith))
+
+pub twos_zero : (k : ℕ) (s : List ℕ) → k * 2 ≤ length s → (eqb (fold (λ any two. bit_or any (from_le_bytes w16 two)) 0 (first_chunks 2 k s)) 0 && all_zero (drop (k * 2) s)) ≡ all_zero s
+twos_zero k s = chunks_zero 2 (from_le_bytes w16) two_zero k s 0
+
+pub fours_zero : (k : ℕ) (s : List ℕ) → k * 4 ≤ length s → (eqb (fold (λ any four. bit_or any (from_le_bytes w32 four)) 0 (first_chunks 4 k s)) 0 && all_zero (drop (k * 4) s)) ≡ all_zero s
+fours_zero k s = chunks_zero 4 (from_le_bytes w32) four_zero k s 0
 
 -- numbers as std makes them of octets
 module _ (at : ℕ) (s : List ℕ) where
