@@ -60,13 +60,13 @@ pub fn zero<C: Column>() -> C
     C::of(C::Uwb::zero(), C::Cs::zero(), C::Nan::zero(), Rssi::zero())
 }
 
-// What the blocks at these places of a message say. NAN's fields are read first, so that few of the others wait on the stack.
+// What the blocks at these places of a message say. UWB's fields are read last, since most of them would wait on the stack.
 pub(crate) fn column_at<C: Column>(m: &[u8], places: &[u16; 5]) -> C
     ensures { C.kept result ≡ column_at C.column m.now places.now }
 {
-    let nan = fields_at(m, u32::from(places[2]));
-    let uwb = fields_at(m, u32::from(places[0]));
     let cs = fields_at(m, u32::from(places[1]));
     let rssi = fields_at(m, u32::from(places[3]));
+    let nan = fields_at(m, u32::from(places[2]));
+    let uwb = fields_at(m, u32::from(places[0]));
     C::of(uwb, cs, nan, rssi)
 }

@@ -88,9 +88,10 @@ pub fn message(mut s: Session, octets: &[u8], out: &mut [u8]) -> Step
 pub fn advertise(mut s: Session, out: &mut [u8]) -> Step
     ensures { Does s (record { said = Said.advertisement; lent = out.old }) result.answer result.session out.new }
 {
-    let mut answer = Answer::refused(Refusal::NotValid);
-    if s.profile.is_valid() {
-        answer = give_out(&mut s, ALL, out);
-    }
+    let answer = if s.profile.is_valid() {
+        give_out(&mut s, ALL, out)
+    } else {
+        Answer::refused(Refusal::NotValid)
+    };
     Step { session: s, answer }
 }
