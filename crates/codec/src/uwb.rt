@@ -1,6 +1,5 @@
 // UWB: its two blocks. Channel, preamble index and config ID are kinds of their own, and so are sets of them.
 ghost use Rattle.std.specs.Prelude.{◌≡◌, refl, ◌+◌, ◌≤◌, length, get_or};
-ghost use Rattle.codec.specs.Octets.{all_zero};
 ghost use Rattle.codec.specs.Layout.{country, two_letters, spelled, inside, test, write, fault};
 ghost use Rattle.codec.specs.Blocks.{interval, allowed_key_length, uwb_capability, uwb_configuration, uwb_after_key};
 ghost use Rattle.codec.specs.Records.{to_uwb_capability, to_uwb_configuration, of_uwb_capability, of_uwb_configuration};
@@ -128,18 +127,6 @@ fn put_sets(v: &UwbCapability, out: &mut [u8], at: usize) -> usize
     put_u32(out, config_ids, v.config_ids.0)
 }
 
-fn is_zero_pair(pair: &[u8; 2]) -> bool
-    ensures { result ≡ all_zero pair.now }
-{
-    all_zero(pair)
-}
-
-fn is_zero_key(key: &[u8; 32]) -> bool
-    ensures { result ≡ all_zero key.now }
-{
-    all_zero(key)
-}
-
 // Writes the fields after the address and before the key.
 fn put_before_key(v: &UwbConfiguration, out: &mut [u8], at: usize) -> usize
     requires { at + 10 ≤ length out.old }
@@ -222,7 +209,7 @@ impl Fields for UwbCapability {
     fn is_zero(&self) -> bool {
         let numbers = (self.shortest_interval == 0)
             & ((self.shortest_slot == 0) & (self.roles == 0));
-        is_zero_pair(&self.address)
+        all_zero(&self.address)
             & ((self.channels.0 == 0)
                 & ((self.preamble_indexes.0 == 0) & ((self.config_ids.0 == 0) & numbers)))
     }
@@ -335,8 +322,8 @@ impl Fields for UwbConfiguration {
         let ids = (self.session_id == 0)
             & ((self.config_id.0 == 0) & ((self.channel.0 == 0) & (self.preamble_index.0 == 0)));
         let timing = (self.interval == 0) & ((self.slot == 0) & (self.key_length == 0));
-        let last = is_zero_pair(&self.country) & ((self.role == 0) & (self.mode == 0));
-        is_zero_pair(&self.address) & (ids & (timing & (is_zero_key(&self.key) & last)))
+        let last = all_zero(&self.country) & ((self.role == 0) & (self.mode == 0));
+        all_zero(&self.address) & (ids & (timing & (all_zero(&self.key) & last)))
     }
 
     fn size(&self) -> u8 {
