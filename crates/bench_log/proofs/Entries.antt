@@ -10,9 +10,6 @@ use Rattle.codec.specs.declared.refusal.Refusal.TheVariants.{BrokenRecord}
 use Rattle.codec.specs.Octets.{all_zero, part}
 use Rattle.codec.specs.Table.{message_limit}
 use Rattle.codec.specs.Message.{reading}
-use Rattle.codec.specs.Inner.Places.{Hears}
-use Rattle.codec.specs.declared.records.Heard.{Heard}
-use Rattle.codec.specs.declared.records.Record.{Record}
 use Rattle.bench_log.specs.LogRecord.{length_in, message_in, keeps_layout, Held, taken_apart, parts_of, reading_of, listed, entry_of}
 use Rattle.bench_log.specs.declared.entry.Accepted.{Accepted}
 use Rattle.bench_log.specs.declared.layout.Parts.{Parts}
@@ -98,18 +95,3 @@ module _ (r : List ℕ) where
       → record { direction = p.direction; message = c } ≡ entry_of r
   unfolding entry_of reading_of
   entry_listed p e l = rw ((apart message_limit r p e).holds, l)
-
--- what is listed of a message that is heard, and of one that is not
-pub heard_listed : (m : List ℕ) (h : Heard) → Hears (reading m) m (Ok h) → Ok (record { id = h.id; set = h.set }) ≡ listed (reading m)
-heard_listed m h a = go (reading m) a
-  where
-    go : (c : Checked Record) → Hears c m (Ok h) → Ok (record { id = h.id; set = h.set }) ≡ listed c
-    go (Err x) q = let z : ◌≡◌ {A = ℕ} 0 1 = cc in absurd (omega arith)
-    go (Ok r) q = rw (q.id, q.set)
-
-pub refused_listed : (m : List ℕ) (x : Refusal) → Hears (reading m) m (Err x) → Err x ≡ listed (reading m)
-refused_listed m x a = go (reading m) a
-  where
-    go : (c : Checked Record) → Hears c m (Err x) → Err x ≡ listed c
-    go (Err y) q = let e : x ≡ y = cc in rw e
-    go (Ok r) q = absurd q
