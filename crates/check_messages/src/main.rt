@@ -5,14 +5,7 @@ mod messages;
 mod sessions;
 mod show;
 
-use std::io;
-
-fn run(rt: &impl Print) -> io::Result<()> {
-    messages::run(rt)?;
-    sessions::run(rt)
-}
-
 fn main(rt: HostRuntime) {
-    // what cannot be printed is compared and found missing
-    let _ = run(&rt);
+    messages::run(&rt);
+    sessions::run(&rt);
 }

@@ -1,7 +1,8 @@
 // Sessions: of each call its reply, what it set, what it stopped, and what ranges afterwards.
-use crate::show::{Names, Octets};
+use crate::show::{Names, Octets, Output};
 use session::{Answer, Session};
-use std::{fmt, io};
+use std::fmt;
+use std::fmt::Write;
 
 // What ranges in a session.
 #[derive(Clone, Copy)]
@@ -9,6 +10,7 @@ struct Ranging<'a>(&'a Session);
 
 impl<'a> fmt::Display for Ranging<'a> {
     fn fmt<W: fmt::Write>(&self, f: &mut fmt::Formatter<W>) -> fmt::Result {
+        write!(f, "; ranging")?;
         let uwb = self.0.uwb.ranging != 0;
         let nan = self.0.nan.ranging != 0;
         let rssi = self.0.rssi.ranging != 0;
@@ -42,168 +44,172 @@ struct Tag<'a, P> {
 
 impl<'a, P: Print> Tag<'a, P> {
     // Starts a session whose profile is what a Capability Response says.
-    fn begin(rt: &'a P, name: &str, profile: &[u8], replies: u8) -> io::Result<Tag<'a, P>> {
+    fn begin(rt: &'a P, name: &str, profile: &[u8], replies: u8) -> Tag<'a, P> {
         let started = session::start(codec::read(profile).value, replies);
         let session = started.session;
         if started.refusal != 0 {
-            println!(rt;
-                "{name}: refused {}; ranging{}",
+            let _ = writeln!(
+                Output(rt),
+                "{name}: refused {}{}",
                 started.refusal,
                 Ranging(&session)
-            )?;
+            );
         } else {
-            println!(rt; "{name}: started; ranging{}", Ranging(&session))?;
+            let _ = writeln!(Output(rt), "{name}: started{}", Ranging(&session));
         }
-        Ok(Tag { rt, session })
+        Tag { rt, session }
     }
 
-    fn full(rt: &'a P) -> io::Result<Tag<'a, P>> {
+    fn full(rt: &'a P) -> Tag<'a, P> {
         Tag::begin(rt, "profile of all four", &ALL_FOUR, 1)
     }
 
     // "NAME: refused 9; ranging none", or "NAME: reply 01 03 08 00; set RSSI; stopped none; ranging RSSI".
-    fn report(&self, name: &str, answer: Answer, buffer: &[u8]) -> io::Result<()> {
+    fn report(&self, name: &str, answer: Answer, buffer: &[u8]) {
         if answer.refusal != 0 {
-            return println!(self.rt;
-                "{name}: refused {}; ranging{}",
+            let _ = writeln!(
+                Output(self.rt),
+                "{name}: refused {}{}",
                 answer.refusal,
                 Ranging(&self.session)
             );
+            return;
         }
         let length = answer.length;
-        println!(self.rt;
-            "{name}: reply{}; set{}; stopped{}; ranging{}",
+        let _ = writeln!(
+            Output(self.rt),
+            "{name}: reply{}; set{}; stopped{}{}",
             Octets { buffer, length },
             Names(answer.set),
             Names(answer.stopped),
             Ranging(&self.session)
-        )
+        );
     }
 
-    fn hear(&mut self, name: &str, message: &[u8]) -> io::Result<()> {
+    fn hear(&mut self, name: &str, message: &[u8]) {
         let mut out = [0u8; 64];
         let step = session::message(self.session, message, &mut out);
         self.session = step.session;
-        self.report(name, step.answer, &out)
+        self.report(name, step.answer, &out);
     }
 
-    fn advertise(&mut self, name: &str) -> io::Result<()> {
+    fn advertise(&mut self, name: &str) {
         let mut out = [0u8; 64];
         let step = session::advertise(self.session, &mut out);
         self.session = step.session;
-        self.report(name, step.answer, &out)
+        self.report(name, step.answer, &out);
     }
 
     // Hears a Configuration of UWB: session ID, channel and preamble index as given, the rest within the profile.
-    fn uwb(&mut self, name: &str, id: u8, channel: u8, index: u8) -> io::Result<()> {
+    fn uwb(&mut self, name: &str, id: u8, channel: u8, index: u8) {
         let mut m =
             *b"\x01\x02\x01\x00\x01\x00\x00\x1B\xD1\xD2\x00\x00\x00\x00\x01\x00\x00\xF0\x00\x02\x08KEYKEYKEDE\x01\x02";
         m[10] = id;
         m[15] = channel;
         m[16] = index;
-        self.hear(name, &m)
+        self.hear(name, &m);
     }
 }
 
 // The examples of the rules.
-fn rssi_only(rt: &impl Print) -> io::Result<()> {
+fn rssi_only(rt: &impl Print) {
     let mut tag = Tag::begin(
         rt,
         "profile of RSSI only",
         b"\x01\x01\x08\x00\x03\x08\xA1\xA2\xA3\xA4\xA5\xA6",
         1,
-    )?;
-    tag.hear("Request 09", b"\x01\x00\x09\x00")?;
+    );
+    tag.hear("Request 09", b"\x01\x00\x09\x00");
     tag.hear(
         "Configuration of RSSI",
         b"\x01\x02\x08\x00\x08\x00\x03\x08\xC1\xC2\xC3\xC4\xC5\xC6",
-    )?;
-    tag.hear("Stop 09", b"\x01\x06\x09\x00")?;
-    tag.hear("the same Stop again", b"\x01\x06\x09\x00")
+    );
+    tag.hear("Stop 09", b"\x01\x06\x09\x00");
+    tag.hear("the same Stop again", b"\x01\x06\x09\x00");
 }
 
 // A second Configuration that is unfit keeps the running settings.
-fn unfit(rt: &impl Print) -> io::Result<()> {
-    let mut tag = Tag::full(rt)?;
-    tag.uwb("UWB, preamble index 4", 1, 9, 4)?;
-    tag.uwb("UWB, preamble index 5", 2, 9, 5)?;
-    tag.uwb("UWB, channel 5", 3, 5, 1)?;
-    tag.uwb("UWB, preamble index 0", 4, 9, 0)?;
-    tag.uwb("UWB, channel 32", 5, 32, 1)?;
-    tag.uwb("UWB, preamble index 1", 6, 9, 1)
+fn unfit(rt: &impl Print) {
+    let mut tag = Tag::full(rt);
+    tag.uwb("UWB, preamble index 4", 1, 9, 4);
+    tag.uwb("UWB, preamble index 5", 2, 9, 5);
+    tag.uwb("UWB, channel 5", 3, 5, 1);
+    tag.uwb("UWB, preamble index 0", 4, 9, 0);
+    tag.uwb("UWB, channel 32", 5, 32, 1);
+    tag.uwb("UWB, preamble index 1", 6, 9, 1);
 }
 
 // After a Stop that ended it, UWB needs its capabilities given out again.
-fn barred(rt: &impl Print) -> io::Result<()> {
-    let mut tag = Tag::full(rt)?;
-    tag.hear("Stop of UWB, not ranging", b"\x01\x06\x01\x00")?;
-    tag.uwb("UWB", 1, 9, 1)?;
-    tag.hear("Stop of UWB", b"\x01\x06\x01\x00")?;
-    tag.uwb("UWB after its Stop", 2, 9, 1)?;
-    tag.hear("Request for RSSI", b"\x01\x00\x08\x00")?;
-    tag.uwb("UWB still", 3, 9, 1)?;
-    tag.hear("Request for UWB", b"\x01\x00\x01\x00")?;
-    tag.uwb("UWB again", 4, 9, 1)?;
-    tag.hear("Stop of all", b"\x01\x06\x0F\x00")?;
-    tag.advertise("advertisement")?;
-    tag.uwb("UWB after the advertisement", 5, 9, 1)
+fn barred(rt: &impl Print) {
+    let mut tag = Tag::full(rt);
+    tag.hear("Stop of UWB, not ranging", b"\x01\x06\x01\x00");
+    tag.uwb("UWB", 1, 9, 1);
+    tag.hear("Stop of UWB", b"\x01\x06\x01\x00");
+    tag.uwb("UWB after its Stop", 2, 9, 1);
+    tag.hear("Request for RSSI", b"\x01\x00\x08\x00");
+    tag.uwb("UWB still", 3, 9, 1);
+    tag.hear("Request for UWB", b"\x01\x00\x01\x00");
+    tag.uwb("UWB again", 4, 9, 1);
+    tag.hear("Stop of all", b"\x01\x06\x0F\x00");
+    tag.advertise("advertisement");
+    tag.uwb("UWB after the advertisement", 5, 9, 1);
 }
 
 // CS can be set and is never ranging; NAN is periodic only where the profile is.
-fn others(rt: &impl Print) -> io::Result<()> {
-    let mut tag = Tag::full(rt)?;
+fn others(rt: &impl Print) {
+    let mut tag = Tag::full(rt);
     tag.hear(
         "CS level 4",
         b"\x01\x02\x02\x00\x02\x00\x01\x09\x04\xE1\xE2\xE3\xE4\xE5\xE6",
-    )?;
+    );
     tag.hear(
         "CS level 0",
         b"\x01\x02\x02\x00\x02\x00\x01\x09\x00\xE1\xE2\xE3\xE4\xE5\xE6",
-    )?;
-    tag.hear("Stop of CS", b"\x01\x06\x02\x00")?;
+    );
+    tag.hear("Stop of CS", b"\x01\x06\x02\x00");
     tag.hear(
         "NAN, periodic",
         b"\x01\x02\x04\x00\x04\x00\x02\x09\x04LENT\x00\x01",
-    )?;
+    );
     tag.hear(
         "NAN, not periodic",
         b"\x01\x02\x04\x00\x04\x00\x02\x09\x04LENT\x00\x00",
-    )
+    );
 }
 
-fn refusals(rt: &impl Print) -> io::Result<()> {
-    let mut tag = Tag::full(rt)?;
-    tag.hear("Capability Response", b"\x01\x01\x00\x00")?;
-    tag.hear("reserved ID", b"\x01\x08\x00\x00")?;
+fn refusals(rt: &impl Print) {
+    let mut tag = Tag::full(rt);
+    tag.hear("Capability Response", b"\x01\x01\x00\x00");
+    tag.hear("reserved ID", b"\x01\x08\x00\x00");
     let mut out = [0u8; 3];
     let step = session::message(tag.session, b"\x01\x06\x00\x00", &mut out);
     tag.session = step.session;
-    tag.report("Stop with a buffer of 3", step.answer, &out)?;
+    tag.report("Stop with a buffer of 3", step.answer, &out);
     tag.session.mark = 1;
-    tag.uwb("UWB with a forged mark", 1, 9, 1)?;
-    tag.hear("Request", b"\x01\x00\x00\x00")?;
-    Tag::begin(rt, "reply choice 3", b"\x01\x01\x00\x00", 3)?;
+    tag.uwb("UWB with a forged mark", 1, 9, 1);
+    tag.hear("Request", b"\x01\x00\x00\x00");
+    Tag::begin(rt, "reply choice 3", b"\x01\x01\x00\x00", 3);
     // its choice of replies is refused with it
-    let mut tag = Tag::begin(rt, "profile that is not valid", b"\x01\x00\x00\x00", 1)?;
-    tag.hear("Request after it", b"\x01\x00\x0F\x00")?;
-    tag.hear("Stop after it", b"\x01\x06\x0F\x00")
+    let mut tag = Tag::begin(rt, "profile that is not valid", b"\x01\x00\x00\x00", 1);
+    tag.hear("Request after it", b"\x01\x00\x0F\x00");
+    tag.hear("Stop after it", b"\x01\x06\x0F\x00");
 }
 
 // Messages 3 and 7 are written with explicit replies on only. The sets are returned all the same.
-fn choice(rt: &impl Print, name: &str, replies: u8) -> io::Result<()> {
-    let mut tag = Tag::begin(rt, name, &ALL_FOUR, replies)?;
-    tag.uwb("UWB", 1, 9, 1)?;
-    tag.hear("Request for NAN", b"\x01\x00\x04\x00")?;
-    tag.hear("Stop of all", b"\x01\x06\x0F\x00")
+fn choice(rt: &impl Print, name: &str, replies: u8) {
+    let mut tag = Tag::begin(rt, name, &ALL_FOUR, replies);
+    tag.uwb("UWB", 1, 9, 1);
+    tag.hear("Request for NAN", b"\x01\x00\x04\x00");
+    tag.hear("Stop of all", b"\x01\x06\x0F\x00");
 }
 
-pub(crate) fn run(rt: &impl Print) -> io::Result<()> {
-    rssi_only(rt)?;
-    unfit(rt)?;
-    barred(rt)?;
-    others(rt)?;
-    refusals(rt)?;
-    choice(rt, "replies not said", 0)?;
-    choice(rt, "replies on", 1)?;
-    choice(rt, "replies off", 2)
+pub(crate) fn run(rt: &impl Print) {
+    rssi_only(rt);
+    unfit(rt);
+    barred(rt);
+    others(rt);
+    refusals(rt);
+    choice(rt, "replies not said", 0);
+    choice(rt, "replies on", 1);
+    choice(rt, "replies off", 2);
 }

@@ -1,5 +1,17 @@
-// How sets and octets are printed.
+// What the examples are printed with.
 use std::fmt;
+use std::fmt::InlineText;
+
+// Standard output. Each piece of a line is a write of its own; where one cannot be written it is missing, and the next are tried.
+#[derive(Drop)]
+pub(crate) struct Output<'a, P>(pub(crate) &'a P);
+
+impl<'a, P: Print> fmt::Write for Output<'a, P> {
+    fn write_str(&mut self, text: &str) -> fmt::Result {
+        let _ = self.0.write_all(text.as_bytes());
+        Ok(())
+    }
+}
 
 // The names of the technologies of a set, each after a space.
 #[derive(Clone, Copy)]
@@ -11,9 +23,9 @@ impl fmt::Display for Names {
         if set == 0 {
             return write!(f, " none");
         }
-        for (id, name) in [(0, "UWB"), (1, "CS"), (2, "NAN"), (3, "RSSI")] {
+        for (id, name) in [(0, " UWB"), (1, " CS"), (2, " NAN"), (3, " RSSI")] {
             if codec::has(set, id) {
-                write!(f, " {name}")?;
+                write!(f, "{name}")?;
             }
         }
         Ok(())
@@ -33,7 +45,8 @@ impl<'a> fmt::Display for Octets<'a> {
             return write!(f, " none");
         }
         for octet in self.buffer.iter().take(self.length) {
-            write!(f, " {octet:02X}")?;
+            let text = InlineText::<3>::of(format_args!(" {octet:02X}"));
+            write!(f, "{}", text.as_str())?;
         }
         Ok(())
     }
