@@ -90,7 +90,8 @@ pub fn write_text(rt: &impl Print, text: &[u8]) -> io::Result<()>
     rt.write_all(text)
 }
 
-// Says on standard error what failed and why, in the system's words, after which an error is printed with its number.
+// Says on standard error what failed and why, in the system's words, after which an error is printed with its number. Each piece is a
+// write of its own: where standard error is nearly full, it takes those that fit.
 pub fn say(rt: &impl Eprint, failure: &str, error: Error) -> Said {
     let said = InlineText::<WORDS_SIZE>::of(error);
     let text = said.as_str();
@@ -98,7 +99,9 @@ pub fn say(rt: &impl Eprint, failure: &str, error: Error) -> Said {
         Some((words, _)) => words,
         None => text,
     };
-    // where standard error takes nothing, there is nobody to be told
-    let _ = eprintln!(rt; "{failure}: {words}");
+    for piece in [failure, ": ", words, "\n"] {
+        // where standard error takes nothing, there is nobody to be told
+        let _ = eprint!(rt; "{piece}");
+    }
     Said
 }
