@@ -114,13 +114,14 @@ fn compare<R: Read + Drop>(
 fn run<R: Files + Print + Eprint>(rt: &R) -> Result<(), Said> {
     let left = open(rt, b"left.log", "compare_logs: left.log cannot be read");
     let right = open(rt, b"right.log", "compare_logs: right.log cannot be read");
+    let (mut left, mut right) = (left?, right?);
     let mut left_piece = [0u8; PIECE_SIZE];
     let mut right_piece = [0u8; PIECE_SIZE];
     let mut text = [0u8; TEXT_SIZE];
     compare(
         rt,
-        &mut left?,
-        &mut right?,
+        &mut left,
+        &mut right,
         &mut left_piece,
         &mut right_piece,
         &mut text,
