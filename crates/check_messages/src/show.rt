@@ -45,6 +45,7 @@ impl<'a> fmt::Display for Octets<'a> {
             return write!(f, " none");
         }
         for octet in self.buffer.iter().take(self.length) {
+            // the space and both digits are one piece
             let text = InlineText::<3>::of(format_args!(" {octet:02X}"));
             write!(f, "{}", text.as_str())?;
         }
